@@ -1,0 +1,4 @@
+pub mod Words
+pub mod Instructions
+pub mod Tests
+pub mod Layout

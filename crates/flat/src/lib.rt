@@ -1,0 +1,6 @@
+// Flat code: words, instructions, and the layout.
+pub mod head;
+pub mod instr;
+pub mod layout;
+mod operand;
+pub mod words;

@@ -1,0 +1,7 @@
+-- A wrapped result.
+use borrow.Author.Needs.{needs}
+use Rattle.std.proofs.shelf.Signed.{wraps}
+use Rattle.kinds.proofs.long.LongKind.sub.Needs as need
+
+pub returns : need.returns
+returns c = search (needs, wraps)

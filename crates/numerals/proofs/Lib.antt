@@ -1,0 +1,4 @@
+pub mod Appends
+pub mod Buffer
+pub mod Lines
+pub mod Numbers

@@ -1,0 +1,3 @@
+pub mod Print
+pub mod Read
+pub mod Steps
