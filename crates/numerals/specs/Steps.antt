@@ -4,8 +4,8 @@ use mathlib.Core.Bool.{Bool, not, _&&_}
 use mathlib.Core.List.{List, _∷_, _++_}
 use Prim.Native.Nat.{ℕ}
 use denote.Ref.{RefT, now}
-use lib.Dec.{eqb}
-use lib.ListN.{take, drop}
+use lib.Dec.{eqb, ltb}
+use lib.ListN.{length, getD, take, drop}
 use lib.IntN.{ℤ}
 use mir.Syntax.{w32}
 use mir.Val.{SFits}
@@ -50,6 +50,10 @@ Reads {V} print Good text None = (v : V) → Good v → text ≡ print v → ⊥
 abbrev pub After : (front text : List ℕ) → Option (RefT (List ℕ)) → Type 0
 After front text (Some rest) = text ≡ front ++ now rest
 After front text None = (rest : List ℕ) → text ≡ front ++ rest → ⊥
+
+-- A zero stands in front of other bytes.
+abbrev pub padded : List ℕ → Bool
+padded bytes = ltb 1 (length bytes) && eqb (getD bytes 0 0) 48
 
 -- A number ends before a space or a closing bracket.
 abbrev pub inside : ℕ → Bool

@@ -1,5 +1,7 @@
 // Decimal numbers and lists of them, to bytes and from bytes.
 pub mod read;
+#[cfg(test)]
+mod tests;
 pub mod write;
 
 pub use read::ListError;

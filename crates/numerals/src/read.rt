@@ -7,7 +7,7 @@ ghost use mir.Syntax.{w32};
 ghost use mir.Val.{SFits};
 ghost use Rattle.numerals.specs.Print.{Kept};
 ghost use Rattle.numerals.specs.Read.{ListRead};
-ghost use Rattle.numerals.specs.Steps.{After, Reads, ValuesRead, behind, inside, token};
+ghost use Rattle.numerals.specs.Steps.{After, Reads, ValuesRead, behind, inside, padded, token};
 ghost use Rattle.numerals.specs.declared.read.ListError.the-variants.{NoMemory};
 ghost use Rattle.std.specs.Of.Vec.{vec-items};
 ghost use Rattle.std.specs.Results.{isErr};
@@ -40,6 +40,7 @@ pub impl<T: Drop> From<Refused<T>> for ListError as ListErrorFromRefused {
 
 // The largest number of 32 bits, and the magnitude of the lowest.
 const LARGEST: u32 = 2147483647;
+
 const LOWEST: u32 = 2147483648;
 
 // What follows `front` in a text that begins with it.
@@ -49,14 +50,18 @@ fn after<'a>(text: &'a [u8], front: &[u8]) -> Option<&'a [u8]>
     text.strip_prefix(front)
 }
 
+// Whether a zero stands in front of other bytes.
+fn padded(digits: &[u8]) -> bool
+    ensures { λ r. ⌜ r ≡ padded (now (digits .entry)) ⌝ }
+{
+    digits.len() > 1 && digits[0] == b'0'
+}
+
 // The number up to `most` whose digits these are.
 fn natural(digits: &[u8], most: u32) -> Option<u32>
     ensures { λ r. ⌜ Reads decimal (λ n. n ≤ most) (now (digits .entry)) r ⌝ }
 {
-    if digits.is_empty() {
-        return None;
-    }
-    if digits[0] == b'0' && digits.len() > 1 {
+    if digits.is_empty() || padded(digits) {
         return None;
     }
     let mut n: u64 = 0;

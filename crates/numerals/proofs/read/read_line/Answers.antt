@@ -19,7 +19,7 @@ returns-in-Break-end c =
     }
 
 pub returns-in-rest-after : need.returns-in-rest-after
-returns-in-rest-after c = 
+returns-in-rest-after c =
     let passed = c .in-Continue-end .ensures tt in
     record {
       answer =

@@ -11,6 +11,7 @@ returns-in-Break-push c = let e = c .in-Break-push .ensures tt .items in search 
 pub returns : need.returns
 returns c =
     elim (c .if-n-lt0 .came) [
-      then-n-lt0·in-Continue-push w ↦
-        let below = simp (toZ-ofZ _ _ (c .fits .n)) at (w .if-n-lt0 .taken) in let sign = w .in-Continue-push .ensures tt .items in search (needs, appended-below)
-    | else-n-lt0 w ↦ let above = simp (toZ-ofZ _ _ (c .fits .n)) at (w .if-n-lt0 .left) in search (needs, appended-above) ]
+      | then-n-lt0·in-Continue-push w ↦
+          let below = simp (toZ-ofZ _ _ (c .fits .n)) at (w .if-n-lt0 .taken) in let sign = w .in-Continue-push .ensures tt .items in search (needs, appended-below)
+      | else-n-lt0 w ↦ let above = simp (toZ-ofZ _ _ (c .fits .n)) at (w .if-n-lt0 .left) in search (needs, appended-above)
+    ]
