@@ -11,7 +11,7 @@ use Rattle.hosts.specs.Meaning.{Meaning, up, down}
 use Rattle.hosts.specs.declared.jig.Jig.{Jig}
 use Rattle.hosts.specs.declared.jig.LidOpen.{LidOpen}
 
--- The level of each input: the held output that its wire names, or 0 where there is none of that name.
+-- The level of each input: the held output that its wire names, or 0 where it names none.
 abbrev pub wired : List ℤ → List ℕ → List ℤ
 wired held wiring = map (λ output. getD held output (pos 0)) wiring
 
@@ -40,6 +40,6 @@ abbrev pub Latched : {U : Type 0} → Jig → Result U LidOpen → Jig → Type 
 Latched s (Ok _) t = t ≡ record { wiring = s .wiring; held = s .held; latch = wired (s .held) (s .wiring); «open» = s .«open» }
 Latched s (Err _) t = t ≡ s
 
--- A jig after v was put to output i.
+-- A jig after v was put to output i: nothing else of it changes.
 abbrev pub driven : Jig → ℕ → ℤ → Jig
 driven j i v = record { wiring = j .wiring; held = set (j .held) i v; latch = j .latch; «open» = j .«open» }

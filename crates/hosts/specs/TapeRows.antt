@@ -30,7 +30,7 @@ tape-means = record {
   held = λ t. t .held;
 }
 
--- A sample of the tape s answered r and left t: an accepted one moves on by exactly one row and counts it.
+-- A sample of the tape s answered r and left t: an accepted one moves on by exactly one row and counts it, a refused one changes nothing.
 abbrev pub Moved : {U : Type 0} → Tape → Result U Spent → Tape → Type 0
 Moved s (Ok _) t = (now (t .rest) ≡ drop (length (now (s .latch))) (now (s .rest))) × (t .used ≡ s .used + 1)
 Moved s (Err _) t = t ≡ s

@@ -1,6 +1,5 @@
 // What is read from and put to the lines of any host, many lines at a time.
 ghost use mathlib.Core.Path.{_≡_};
-ghost use lib.IntN.{pos};
 ghost use Rattle.hosts.specs.Levels.{sensed, settled, cleared};
 use crate::Host;
 

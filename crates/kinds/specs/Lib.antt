@@ -1,3 +1,4 @@
+-- What the contracts of the kinds cite.
 pub mod Ops
 pub mod Integers
 pub mod Rounding

@@ -1,5 +1,5 @@
 -- Laws of a scan on a host.
-use mathlib.Core.Path.{_≡_, refl, sym, ap, _∙_}
+use mathlib.Core.Path.{_≡_, refl, sym, ap, subst, _∙_}
 use mathlib.Core.Bool.{Bool, true, false, cond, not, _||_}
 use mathlib.Core.List.{List}
 use Prim.Native.Nat.{ℕ, _+_, _≤_}
@@ -8,17 +8,22 @@ use lib.Dec.{ltb}
 use lib.IntN.{ℤ}
 use lib.ListN.{length}
 use Rattle.std.specs.declared.option.Option.{Option}
+use Rattle.std.specs.declared.result.Result.the-variants.{Err}
 use Rattle.std.proofs.shelf.Tests.{le-ltb}
 use Rattle.kinds.specs.Ops.{Ops}
 use Rattle.hosts.specs.Meaning.{Pins, up}
 use Rattle.hosts.specs.Levels.{sensed, settled}
 use Rattle.flat.specs.Words.{at, word, head}
 use Rattle.machine.specs.declared.board.Board.{Board}
+use Rattle.machine.specs.declared.refusal.Place.{Place}
+use Rattle.machine.specs.declared.refusal.ScanRefusal.{ScanRefusal}
+use Rattle.machine.specs.declared.sweep.GivenUp.{GivenUp}
 use Rattle.machine.specs.declared.step.Fault.{Fault}
 use Rattle.machine.specs.declared.step.Fault.the-variants.{Divisor, Stack}
 use Rattle.machine.specs.Sweep.{Swept, swept, no-divisor, no-stack}
 use Rattle.machine.specs.Scan.{World, Told, steps, refused-in, Scanned, counted, latched, ended, swept-on, same-word, short, sampled, scan}
-use Rattle.machine.specs.Memory.{Advanced, advanced, gave-up, finished, advance}
+use Rattle.machine.specs.Calls.{told, Untouched}
+use Rattle.machine.specs.Memory.{Advanced, advanced, gave-up, finished, advance, refusal-of}
 
 -- The number of the refusal for which a scan is given up.
 abbrev pub fault-number : Fault → ℕ
@@ -35,6 +40,18 @@ told-host (gave-up f q s cells board) levels w = record {
   told = refused-in (fault-number f) q s;
   world = record { cells = cells; board = board; scans = w .scans; latch = levels; held = w .held };
 }
+
+-- A scan that was given up is told by that number, and has sampled.
+told-refusal : {F : Type 0} (f : Fault) (p : Place) → told {F = F} (Err (refusal-of f p)) ≡ refused-in (fault-number f) (p .process) (p .state)
+told-refusal Divisor p = refl
+told-refusal Stack p = refl
+
+pub given-up-sampled : {H F : Type 0} (f : Fault) (p : Place) (r : ScanRefusal F) → r ≡ refusal-of f p → (h h₁ : H) → Untouched (Err r) h h₁
+given-up-sampled {H} {F} f p r is h h₁ = subst (λ (x : ScanRefusal F). Untouched (Err x) h h₁) (sym is) (by f)
+  where
+    by : (f : Fault) → Untouched {F = F} (Err (refusal-of f p)) h h₁
+    by Divisor = tt
+    by Stack = tt
 
 module _ {V F : Type 0} (k : Ops V) (code : List ℤ) (w : World V) where
   ended-by : (levels : List ℤ) (s : Swept V) → told-host {F = F} (finished code (w .cells) (w .board) s) levels w ≡ ended code levels w s
@@ -60,13 +77,15 @@ module _ {V F : Type 0} (k : Ops V) (code : List ℤ) (w : World V) where
   goes-well n puts cells board scans seen levels latch held s a c l h = rw (c, l, h) (told-is (advanced n puts cells board) seen levels s a)
 
   pub is-given-up :
-    (f f′ : Fault) (q s : ℕ) (cells : List V) (board : Board) (seen levels : List ℤ)
+    (e : GivenUp) (r : ScanRefusal F) (cells : List V) (board : Board) (seen levels : List ℤ)
     → seen ≡ sensed levels
-    → f ≡ f′
-    → gave-up f q s cells board ≡ advance k seen code (w .cells) (w .board)
-    → (let r : Scanned V F = record { told = refused-in (fault-number f′) q s; world = record { cells = cells; board = board; scans = w .scans; latch = levels; held = w .held } } in r) ≡ ended code levels w (swept-on k code levels w)
-  is-given-up f f′ q s cells board seen levels e is a =
-      told-is (gave-up f′ q s cells board) seen levels e (ap (λ (j : Fault). gave-up j q s cells board) (sym is) ∙ a)
+    → r ≡ refusal-of (e .fault) (e .place)
+    → gave-up (e .fault) (e .place .process) (e .place .state) cells board ≡ advance k seen code (w .cells) (w .board)
+    → (let x : Scanned V F = record { told = told (Err r); world = record { cells = cells; board = board; scans = w .scans; latch = levels; held = w .held } } in x) ≡ ended code levels w (swept-on k code levels w)
+  is-given-up e r cells board seen levels s is a =
+      ap (λ (x : Told F). let y : Scanned V F = record { told = x; world = record { cells = cells; board = board; scans = w .scans; latch = levels; held = w .held } } in y)
+        (ap (λ (x : ScanRefusal F). told (Err x)) is ∙ told-refusal (e .fault) (e .place))
+      ∙ told-is (gave-up (e .fault) (e .place .process) (e .place .state) cells board) seen levels s a
 
   -- a scan of the right kind, with room and lines enough, on a host that is up
   pub scan-goes :

@@ -6,3 +6,4 @@ pub mod Clears
 pub mod Advances
 pub mod Endings
 pub mod Runnables
+pub mod Laws

@@ -6,3 +6,4 @@ pub mod Scan
 pub mod Start
 pub mod Calls
 pub mod Memory
+pub mod Laws

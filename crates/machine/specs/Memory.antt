@@ -18,6 +18,9 @@ use Rattle.flat.specs.declared.instr.Control.the-variants.{State, Start, Stop, 
 use Rattle.flat.specs.declared.instr.Instr.{Instr}
 use Rattle.flat.specs.declared.instr.Instr.the-variants.{End, Push, Convert, Combine, Jump, Unless, Keep, Drive, Set}
 use Rattle.machine.specs.declared.board.Board.{Board}
+use Rattle.machine.specs.declared.refusal.Place.{Place}
+use Rattle.machine.specs.declared.refusal.ScanRefusal.{ScanRefusal}
+use Rattle.machine.specs.declared.refusal.ScanRefusal.the-variants.{Divisor as NoDivisor, Stack as NoStack}
 use Rattle.machine.specs.declared.step.Fault.{Fault}
 use Rattle.machine.specs.declared.step.Fault.the-variants.{Divisor, Stack}
 use Rattle.machine.specs.declared.step.Flow.{Flow}
@@ -141,3 +144,8 @@ advance k seen code cells board = finished code cells board (sweep k seen code (
 abbrev pub advances : {V : Type 0} → Result (ℕ × List (Option ℤ)) GivenUp → List V → Board → Advanced V
 advances (Ok r) cells board = advanced (r .0) (r .1) cells board
 advances (Err e) cells board = gave-up (e .fault) (e .place .process) (e .place .state) cells board
+
+-- The refusal of a scan that was given up.
+abbrev pub refusal-of : {F : Type 0} → Fault → Place → ScanRefusal F
+refusal-of Divisor p = NoDivisor p
+refusal-of Stack p = NoStack p

@@ -3,6 +3,7 @@ mod advance;
 pub mod board;
 mod body;
 mod commit;
+pub mod law;
 pub mod live;
 pub mod mounted;
 pub mod refusal;

@@ -16,7 +16,6 @@ use kinds::Kind;
 use crate::advance::advance;
 use crate::board::Board;
 use crate::refusal::ScanRefusal;
-use crate::step::Fault;
 
 // A run that was started: it holds its code with the code's head, and counts its scans.
 #[derive(Drop)]
@@ -54,7 +53,8 @@ impl<'a> Live<'a> {
     pub fn halt(self) -> u64
         ensures { λ r. ⌜ r ≡ self .entry .scans ⌝ }
     {
-        self.scans
+        let Live { code: _, head: _, scans } = self;
+        scans
     }
 
     // One scan: samples the host, runs each process in order, and puts the outputs; the answer is the steps taken.
@@ -89,10 +89,7 @@ impl<'a> Live<'a> {
     {
         let seen = sense(host);
         match advance(self.code, cells, board, work, &seen) {
-            Err(stop) => match stop.fault {
-                Fault::Divisor => Err(ScanRefusal::Divisor(stop.place)),
-                Fault::Stack => Err(ScanRefusal::Stack(stop.place)),
-            },
+            Err(stop) => Err(stop.refusal()),
             Ok(done) => {
                 let puts = done.1;
                 put_all(host, &puts);

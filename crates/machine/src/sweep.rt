@@ -5,11 +5,12 @@ ghost use lib.ListN.{length};
 ghost use Rattle.std.specs.Vec.{made};
 ghost use Rattle.flat.specs.Words.{word, body};
 ghost use Rattle.machine.specs.Sweep.{visit as visited, sweep as swept};
-ghost use Rattle.machine.specs.Memory.{meaning, ran, sweeps, Runnable};
+ghost use Rattle.machine.specs.Memory.{meaning, ran, sweeps, Runnable, «refusal-of»};
 use flat::words::count_at;
 use kinds::Kind;
 use crate::body::run;
 use crate::refusal::Place;
+use crate::refusal::ScanRefusal;
 use crate::step::Fault;
 use crate::step::Running;
 
@@ -18,6 +19,18 @@ use crate::step::Running;
 pub(crate) struct GivenUp {
     pub(crate) fault: Fault,
     pub(crate) place: Place,
+}
+
+impl GivenUp {
+    // The refusal of the scan.
+    pub(crate) fn refusal<F>(self) -> ScanRefusal<F>
+        ensures { λ r. ⌜ r ≡ «refusal-of» (self .fault) (self .place) ⌝ }
+    {
+        match self.fault {
+            Fault::Divisor => ScanRefusal::Divisor(self.place),
+            Fault::Stack => ScanRefusal::Stack(self.place),
+        }
+    }
 }
 
 // The words of the instructions from instruction `i` on.

@@ -2,7 +2,7 @@
 ghost use mathlib.Core.Path.{_≡_};
 ghost use Prim.Native.Nat.{_≤_};
 ghost use lib.IntN.{pos};
-ghost use lib.ListN.{length, getD, set, replicate};
+ghost use lib.ListN.{length, set, replicate};
 ghost use Rattle.hosts.specs.Meaning.{Sampled};
 ghost use Rattle.hosts.specs.TapeRows.{«tape-lines», «tape-means», Moved, «Same-rows»};
 use crate::Host;

@@ -1,0 +1,3 @@
+pub mod Parts
+pub mod HostLines
+pub mod Turns

@@ -1,0 +1,3 @@
+// A stored code carried through rows of levels, and the lines that are printed of it.
+pub mod lines;
+mod listing;
