@@ -9,6 +9,7 @@ use Rattle.std.specs.declared.option.Option.the-variants.{Some, None}
 use Rattle.std.specs.declared.result.Result.{Result}
 use Rattle.std.specs.declared.result.Result.the-variants.{Ok, Err}
 use Rattle.kinds.specs.Ops.{Ops}
+use Rattle.hosts.specs.Meaning.{Meaning, Sampled}
 use Rattle.flat.specs.Words.{word, states, entry, body}
 use Rattle.flat.specs.Instructions.{decoded}
 use Rattle.flat.specs.declared.instr.Source.{Source}
@@ -20,7 +21,7 @@ use Rattle.flat.specs.declared.instr.Instr.the-variants.{End, Push, Convert, Co
 use Rattle.machine.specs.declared.board.Board.{Board}
 use Rattle.machine.specs.declared.refusal.Place.{Place}
 use Rattle.machine.specs.declared.refusal.ScanRefusal.{ScanRefusal}
-use Rattle.machine.specs.declared.refusal.ScanRefusal.the-variants.{Divisor as NoDivisor, Stack as NoStack}
+use Rattle.machine.specs.declared.refusal.ScanRefusal.the-variants.{OtherKind, Short, Down, Divisor as NoDivisor, Stack as NoStack}
 use Rattle.machine.specs.declared.step.Fault.{Fault}
 use Rattle.machine.specs.declared.step.Fault.the-variants.{Divisor, Stack}
 use Rattle.machine.specs.declared.step.Flow.{Flow}
@@ -149,3 +150,12 @@ advances (Err e) cells board = gave-up (e .fault) (e .place .process) (e .place 
 abbrev pub refusal-of : {F : Type 0} → Fault → Place → ScanRefusal F
 refusal-of Divisor p = NoDivisor p
 refusal-of Stack p = NoStack p
+
+-- A host in the state s was sampled for a scan, which answered r and left it in the state t: as a sample of it does, its fault told as a refusal.
+abbrev pub Latches : {H F U : Type 0} → Meaning H F → H → Result U (ScanRefusal F) → H → Type 0
+Latches {U = U} m s (Ok u) t = Sampled {U = U} m s (Ok u) t
+Latches m s (Err OtherKind) t = ⊥
+Latches m s (Err Short) t = ⊥
+Latches {U = U} m s (Err (Down f)) t = Sampled {U = U} m s (Err f) t
+Latches m s (Err (NoDivisor p)) t = ⊥
+Latches m s (Err (NoStack p)) t = ⊥

@@ -7,7 +7,7 @@ ghost use Rattle.flat.specs.Words.{word};
 ghost use Rattle.flat.specs.Layout.{Holds};
 ghost use Rattle.machine.specs.Scan.{«same-word», «swept-on», ended};
 ghost use Rattle.machine.specs.Calls.{told, Scans, Untouched};
-ghost use Rattle.machine.specs.Memory.{Runnable};
+ghost use Rattle.machine.specs.Memory.{Runnable, Latches};
 use flat::head::Head;
 use hosts::Host;
 use hosts::levels::put_all;
@@ -30,6 +30,16 @@ pub(crate) fn is_kind<K: Kind>(word: i32) -> bool
     ensures { λ r. ⌜ r ≡ «same-word» word (ops .number) ⌝ }
 {
     word == K::code_word()
+}
+
+// Samples the host, and passes its fault up whole.
+fn sample<H: Host>(host: &mut H) -> Result<(), ScanRefusal<H::Fault>>
+    ensures { λ r. ⌜ Latches means (now (host .entry)) r (now (host .exit)) ⌝ }
+{
+    match host.sample() {
+        Ok(_) => Ok(()),
+        Err(fault) => Err(ScanRefusal::Down(fault)),
+    }
 }
 
 impl<'a> Live<'a> {
@@ -71,9 +81,7 @@ impl<'a> Live<'a> {
         if work.len() < self.head.cells + 16 || cells.len() < self.head.cells || host.inputs() < self.head.inputs || host.outputs() < self.head.outputs {
             return Err(ScanRefusal::Short);
         }
-        if let Err(fault) = host.sample() {
-            return Err(ScanRefusal::Down(fault));
-        }
+        sample(host)?;
         self.proceed(cells, work, board, host)
     }
 

@@ -30,9 +30,16 @@ use Rattle.playback.specs.Listing.{at-rest, listing, row-pins, row-scan}
 use Rattle.playback.proofs.Parts.{two-parts}
 use Rattle.playback.proofs.HostLines.{Wide, next-row-wide, printed, printed-rested, scan-lines}
 
--- A code of the layout has at most 32 inputs.
-few-inputs : (code : List ℤ) → Layout code → word code 3 ≤ 32
+-- A code of the layout has at most 32 inputs, and at most 32 outputs.
+pub few-inputs : (code : List ℤ) → Layout code → word code 3 ≤ 32
 few-inputs code layout = rw (layout .inputs .1) (layout .inputs .3)
+
+pub few-outputs : (code : List ℤ) → Layout code → word code 4 ≤ 32
+few-outputs code layout = rw (layout .outputs .1) (layout .outputs .3)
+
+-- So a tape has as many lines as such a code has inputs.
+pub inputs-lines : (code : List ℤ) (h : Head) → Holds code h → tape-lines (h .inputs) ≡ word code 3
+inputs-lines code h holds = ap (λ (x : Head). tape-lines (x .inputs)) (holds .head-is) ∙ cond-true (leb (word code 3) 32) (word code 3) 0 (le-leb (word code 3) 32 (few-inputs code (holds .layout)))
 
 -- The same code and head are held.
 pub holds-same : (code code₁ : List ℤ) (h h₁ : Head) → code₁ ≡ code → h₁ ≡ h → Holds code h → Holds code₁ h₁
@@ -49,7 +56,7 @@ module _ {V : Type 0} (k : Ops V) (code : List ℤ) (work : ℕ) where
   -- A run on such a tape is at rest, the row stands at its pins, and so its scan is one of the row.
   pub made-scan : (h : Head) (s s₁ : State V Tape) (row : List ℤ) (r : Result ℕ (ScanRefusal Spent)) → Holds code h → Made (s .host) row (h .inputs) → Scans k tape-means code work s r s₁ → (record { told = told r; world = at-rest code (s₁ .cells) (s₁ .board) (s₁ .scans) }) ≡ row-scan k code work row (at-rest code (s .cells) (s .board) (s .scans))
   made-scan h s s₁ row r holds made e =
-      let lines : tape-lines (h .inputs) ≡ word code 3 = ap (λ (x : Head). tape-lines (x .inputs)) (holds .head-is) ∙ cond-true (leb (word code 3) 32) (word code 3) 0 (le-leb (word code 3) 32 (few-inputs code (holds .layout))) in
+      let lines = inputs-lines code h holds in
       let pins : tape-means .pins (s .host) ≡ row-pins code row = rw (made .latch, made .rest, made .used, length-replicate, lines) in
       let rest : world tape-means s ≡ at-rest code (s .cells) (s .board) (s .scans) = rw (made .latch, made .held, lines) in
       ap (λ (x : Scanned V Spent). record { told = x .told; world = at-rest code (x .world .cells) (x .world .board) (x .world .scans) })

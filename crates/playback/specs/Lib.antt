@@ -1,2 +1,4 @@
 pub mod Lines
 pub mod Listing
+pub mod Rows
+pub mod Replay

@@ -1,5 +1,5 @@
 -- What is printed of a run, scan after scan.
-use mathlib.Core.List.{List, [], _∷_, _++_}
+use mathlib.Core.List.{List, [], _∷_, _++_, map}
 use Prim.Native.Nat.{ℕ, _+_}
 use lib.IntN.{ℤ, pos}
 use lib.ListN.{replicate}
@@ -43,3 +43,7 @@ abbrev pub row-scan : {V : Type 0} → Ops V → List ℤ → ℕ → List ℤ �
 row-scan k code work row w =
     let x = scan k code work (row-pins code row) w in
     record { told = x .told; world = at-rest code (x .world .cells) (x .world .board) (x .world .scans) }
+
+-- What is printed of a run from its beginning where each scan has a tape of just its row, lent the working memory that it needs.
+abbrev pub printed-rows : {V : Type 0} → Ops V → List ℤ → List (List ℤ) → List ℕ
+printed-rows k code rows = listing k code (word code 2 + 16) 1 (map (row-pins code) rows) (beginning k code)

@@ -22,8 +22,8 @@ returns g c =
     let host = c .args .host .now in
     let is = c .pre .mounted .head-is in
     let w : World (g .K .Denot) = record { cells = c .args .cells .now; board = c .args .board .now; scans = c .args .self .now .scans; latch = g .H·Host .means .latch host; held = g .H·Host .means .held host } in
-    let levels = g .H·Host .means .latch (c .sample .last .self) in
-    let sampled = c .in-rest .ensures tt in
+    let levels = g .H·Host .means .latch (c .sample .last .host) in
+    let sampled = c .in-Continue-sample .ensures tt in
     let e : same-word (at code 0) (k .number) ≡ true = search needs in
     let room : word code 2 + 16 ≤ length (c .args .work .now) = search needs in
     let cells : word code 2 ≤ length (c .args .cells .now) = search needs in
@@ -32,7 +32,7 @@ returns g c =
     record {
       result =
         c .proceed .ensures .result
-        ∙ ended-host k code levels (g .H·Host .means .latch host) levels (g .H·Host .means .held host) (g .H·Host .means .held (c .sample .last .self)) (c .args .cells .now) (c .args .board .now) (c .args .self .now .scans) (sampled .1)
+        ∙ ended-host k code levels (g .H·Host .means .latch host) levels (g .H·Host .means .held host) (g .H·Host .means .held (c .sample .last .host)) (c .args .cells .now) (c .args .board .now) (c .args .self .now .scans) (sampled .1)
         ∙ scan-goes k code w (length (c .args .work .now)) (g .H·Host .means .pins host) levels e room cells ins outs (sampled .0);
       untouched = c .proceed .ensures .untouched _ _;
       code = c .proceed .ensures .code;
