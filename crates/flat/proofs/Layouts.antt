@@ -101,8 +101,8 @@ module _ (code : List ℤ) where
         entries = λ q s l k. under-of (word code 6) (entry-word code q s) (sym (used-entry code q s k) ∙ entry q s l (states-below q s (few q l) k));
         unused = λ q s l k h. zero-of (entry-word code q s) (sym (unused-entry code q s k) ∙ entry q s l h);
         operands = λ i l.
-          let z : 0 + i ≡ i = omega arith in
-          rw (z, body-op code size i, body-operand code size i) at (fit-at (head code) (word code 6) 0 (body code 0) i (body-size code size) (last .0) l);
+            let z : 0 + i ≡ i = omega arith in
+            rw (z, body-op code size i, body-operand code size i) at (fit-at (head code) (word code 6) 0 (body code 0) i (body-size code size) (last .0) l);
         last = zero-of (opcode code (word code 6 - 1)) (last .1);
       }
     where
@@ -113,34 +113,37 @@ module _ (code : List ℤ) where
   pub instructions-of-layout : Layout code → instructions-fit (head code) 0 (body code 0) ≡ true
   instructions-of-layout y =
       fit-made (head code) (word code 6) 0 (body code 0) (body-size code (y .size)) (λ j l.
-        let z : 0 + j ≡ j = omega arith in
-        rw (z, body-op code (y .size) j, body-operand code (y .size) j) (y .operands j l))
+      let z : 0 + j ≡ j = omega arith in
+      rw (z, body-op code (y .size) j, body-operand code (y .size) j) (y .operands j l))
 
   pub fits-of-layout : Layout code → fits code ≡ true
   unfolding fits
   fits-of-layout y =
       let some : 1 ≤ word code 6 = count-at-least (y .instructions) in
       both-true (head-fits code) (rest-fits code)
-      ( both-true (timing-fits code) _
-        (both-true (within 1 2 (at code 0)) _ (of-within 1 2 (at code 0) (y .kind)) (of-within 1 60000 (at code 1) (y .tact)))
-        ( both-true (memory-fits code) _
-          (both-true (within 0 64 (at code 2)) _ (of-within 0 64 (at code 2) (y .cells)) (both-true (within 0 32 (at code 3)) _ (of-within 0 32 (at code 3) (y .inputs)) (of-within 0 32 (at code 4) (y .outputs))))
-          ( both-true (program-fits code) _
-            (both-true (within 1 32 (at code 5)) _ (of-within 1 32 (at code 5) (y .processes)) (of-within 1 4096 (at code 6) (y .instructions)))
-            (eq-eqb (length code) _ (y .size)) ) ) )
-      ( both-true (every (process-fits code) 0 (word code 5)) _
-        (every-made (process-fits code) (word code 5) 0 (λ q l k. process q (omega arith) some))
-        ( both-true (instructions-fit (head code) 0 (body code 0)) (ends code)
-          (instructions-of-layout y)
-          (of-zero (opcode code (word code 6 - 1)) (y .last)) ) )
+      (both-true (timing-fits code) _
+      (both-true (within 1 2 (at code 0)) _ (of-within 1 2 (at code 0) (y .kind)) (of-within 1 60000 (at code 1) (y .tact)))
+      (both-true (memory-fits code) _
+      (both-true (within 0 64 (at code 2)) _ (of-within 0 64 (at code 2) (y .cells)) (both-true (within 0 32 (at code 3)) _ (of-within 0 32 (at code 3) (y .inputs)) (of-within 0 32 (at code 4) (y .outputs))))
+      (both-true (program-fits code) _
+      (both-true (within 1 32 (at code 5)) _ (of-within 1 32 (at code 5) (y .processes)) (of-within 1 4096 (at code 6) (y .instructions)))
+      (eq-eqb (length code) _ (y .size)))))
+      (both-true (every (process-fits code) 0 (word code 5)) _
+      (every-made (process-fits code) (word code 5) 0 (λ q l k. process q (omega arith) some))
+      (both-true (instructions-fit (head code) 0 (body code 0)) (ends code)
+      (instructions-of-layout y)
+      (of-zero (opcode code (word code 6 - 1)) (y .last))))
     where
       count-at-least : Within 1 4096 (at code 6) → 1 ≤ word code 6
       count-at-least (n, is, l, h) = let e : word code 6 ≡ n = ap natural is in omega arith
+
       entry : (q s : ℕ) → q < word code 5 → 1 ≤ word code 6 → s < 16 → entry-fits code q s ≡ true
       entry q s l some k =
-          elim (cases-lt s (states code q))
-          [ inl used ↦ used-entry code q s used ∙ of-under (word code 6) (entry-word code q s) some (y .entries q s l used)
-          | inr not ↦ unused-entry code q s not ∙ of-zero (entry-word code q s) (y .unused q s l not k) ]
+          elim (cases-lt s (states code q)) [
+            | inl used ↦ used-entry code q s used ∙ of-under (word code 6) (entry-word code q s) some (y .entries q s l used)
+            | inr not ↦ unused-entry code q s not ∙ of-zero (entry-word code q s) (y .unused q s l not k)
+          ]
+
       process : (q : ℕ) → q < word code 5 → 1 ≤ word code 6 → process-fits code q ≡ true
       process q l some =
           both-true (within 1 16 (states-word code q)) _ (of-within 1 16 (states-word code q) (y .some-states q l))

@@ -116,5 +116,9 @@ pub fn decode(op: i32, operand: i32) -> Instr
 {
     let number = as_count(op);
     let n = as_count(operand);
-    if number < 15 { decode_low(number, operand, n) } else { decode_high(number, operand, n) }
+    if number < 15 {
+        decode_low(number, operand, n)
+    } else {
+        decode_high(number, operand, n)
+    }
 }

@@ -30,7 +30,9 @@ fn timing_fits(code: &[i32]) -> bool
 fn memory_fits(code: &[i32]) -> bool
     ensures { λ r. ⌜ r ≡ «memory-fits» (now (code .entry)) ⌝ }
 {
-    is_within(0, 64, word_at(code, 2)) && is_within(0, 32, word_at(code, 3)) && is_within(0, 32, word_at(code, 4))
+    is_within(0, 64, word_at(code, 2))
+        && is_within(0, 32, word_at(code, 3))
+        && is_within(0, 32, word_at(code, 4))
 }
 
 fn program_fits(code: &[i32]) -> bool
@@ -53,7 +55,11 @@ fn entry_fits(code: &[i32], q: usize, s: usize) -> bool
     ensures { λ r. ⌜ r ≡ «entry-fits» (now (code .entry)) q s ⌝ }
 {
     let entry = word_at(code, 8 + 17 * q + s);
-    if s < count_at(code, 7 + 17 * q) { is_under(count_at(code, 6), entry) } else { entry == 0 }
+    if s < count_at(code, 7 + 17 * q) {
+        is_under(count_at(code, 6), entry)
+    } else {
+        entry == 0
+    }
 }
 
 fn entries_fit(code: &[i32], q: usize) -> bool
@@ -91,7 +97,11 @@ fn ends_well(code: &[i32]) -> bool
     requires { ⌜ «head-fits» (now code) ≡ true ⌝ }
     ensures { λ r. ⌜ r ≡ ends (now (code .entry)) ⌝ }
 {
-    word_at(code, 7 + 17 * count_at(code, 5) + 2 * (count_at(code, 6) - 1)) == 0
+    word_at(
+        code,
+        7 + 17 * count_at(code, 5) + 2 * (count_at(code, 6) - 1),
+    )
+        == 0
 }
 
 fn body_fits(code: &[i32]) -> bool
@@ -120,5 +130,9 @@ fn is_flat_code(code: &[i32]) -> bool
 pub fn read_head(code: &[i32]) -> Result<Head, NotFlatCode>
     ensures { λ r. ⌜ Reads (now (code .entry)) r ⌝ }
 {
-    if is_flat_code(code) { Ok(Head::of(code)) } else { Err(NotFlatCode) }
+    if is_flat_code(code) {
+        Ok(Head::of(code))
+    } else {
+        Err(NotFlatCode)
+    }
 }

@@ -45,13 +45,13 @@ module _ {V : Type 0} (k : Ops V) (seen code : List ℤ) (values : List V) (boar
 
   -- what the end of a scan leaves
   pub closed-is :
-    (steps : ℕ) (puts : List (Option ℤ)) (work to : List V) (n j : ℕ) (b₀ b₁ b₂ : Board)
-    → n ≡ word code 2
-    → j ≡ word code 5
-    → to ≡ take n work ++ drop n values
-    → b₁ ≡ record { rows = b₀ .rows; levels = settled puts (b₀ .levels) }
-    → b₂ ≡ record { rows = ticked j (b₁ .rows); levels = b₁ .levels }
-    → advanced steps puts to b₂ ≡ advanced steps puts (take n work ++ drop (word code 2) values) (closed code puts b₀)
+      (steps : ℕ) (puts : List (Option ℤ)) (work to : List V) (n j : ℕ) (b₀ b₁ b₂ : Board)
+      → n ≡ word code 2
+      → j ≡ word code 5
+      → to ≡ take n work ++ drop n values
+      → b₁ ≡ record { rows = b₀ .rows; levels = settled puts (b₀ .levels) }
+      → b₂ ≡ record { rows = ticked j (b₁ .rows); levels = b₁ .levels }
+      → advanced steps puts to b₂ ≡ advanced steps puts (take n work ++ drop (word code 2) values) (closed code puts b₀)
   closed-is steps puts work to n j b₀ b₁ b₂ e f t p q =
       let close : ℕ → Board → Board = λ i b. record { rows = ticked i (b .rows); levels = b .levels } in
       let b : b₂ ≡ closed code puts b₀ = q ∙ ap (close j) p ∙ ap (λ (i : ℕ). close i (record { rows = b₀ .rows; levels = settled puts (b₀ .levels) })) f in

@@ -57,27 +57,27 @@ module _ {V : Type 0} (k : Ops V) (seen : List ℤ) (p : ℕ) where
 
   -- one instruction, and the rest of the words
   pub run-turn :
-    (at : ℕ) (left : List ℤ) (steps : ℕ) (m : Machine V)
-    → 2 ≤ length left
-    → run k seen p at left 0 steps m ≡ follow (step k seen p at (decoded (getD left 0 (pos 0)) (getD left 1 (pos 0))) m) (steps + 1) (λ n m₁. run k seen p (at + 1) (drop 2 left) n (steps + 1) m₁)
+      (at : ℕ) (left : List ℤ) (steps : ℕ) (m : Machine V)
+      → 2 ≤ length left
+      → run k seen p at left 0 steps m ≡ follow (step k seen p at (decoded (getD left 0 (pos 0)) (getD left 1 (pos 0))) m) (steps + 1) (λ n m₁. run k seen p (at + 1) (drop 2 left) n (steps + 1) m₁)
   run-turn at [] steps m h = absurd (omega arith)
   run-turn at (op ∷ []) steps m h = absurd (omega arith)
   run-turn at (op ∷ (x ∷ rest)) steps m h = refl
 
   -- fewer than two words are left
   pub run-off :
-    (at : ℕ) (left : List ℤ) (n steps : ℕ) (m : Machine V)
-    → length left < 2
-    → run k seen p at left n steps m ≡ done steps m
+      (at : ℕ) (left : List ℤ) (n steps : ℕ) (m : Machine V)
+      → length left < 2
+      → run k seen p at left n steps m ≡ done steps m
   run-off at [] n steps m h = refl
   run-off at (op ∷ []) n steps m h = refl
   run-off at (op ∷ (x ∷ rest)) n steps m h = absurd (omega arith)
 
   -- instructions passed over
   pub run-skip :
-    (n at : ℕ) (left : List ℤ) (steps : ℕ) (m : Machine V)
-    → 2 * n ≤ length left
-    → run k seen p at left n steps m ≡ run k seen p (at + n) (drop (2 * n) left) 0 steps m
+      (n at : ℕ) (left : List ℤ) (steps : ℕ) (m : Machine V)
+      → 2 * n ≤ length left
+      → run k seen p at left n steps m ≡ run k seen p (at + n) (drop (2 * n) left) 0 steps m
   run-skip zero at left steps m h = rw add-zero refl
   run-skip (suc n) at [] steps m h = absurd (omega arith)
   run-skip (suc n) at (op ∷ []) steps m h = absurd (omega arith)
@@ -103,30 +103,31 @@ sound-skip (suc n) cells at (op ∷ (x ∷ rest)) h s =
 -- a turn of the loop over a body: an instruction that goes on
 module _ {V : Type 0} (k : Ops V) (seen : List ℤ) (p : ℕ) where
   pub turn-short :
-    (base at : ℕ) (left : List ℤ) (m m₁ : Machine V) (i : Instr) (n : ℕ)
-    → 2 ≤ length left
-    → i ≡ decoded (getD left 0 (pos 0)) (getD left 1 (pos 0))
-    → Sound base at left
-    → skip n m₁ ≡ step k seen p at i m
-    → 2 * n ≤ length (drop 2 left)
+      (base at : ℕ) (left : List ℤ) (m m₁ : Machine V) (i : Instr) (n : ℕ)
+      → 2 ≤ length left
+      → i ≡ decoded (getD left 0 (pos 0)) (getD left 1 (pos 0))
+      → Sound base at left
+      → skip n m₁ ≡ step k seen p at i m
+      → 2 * n ≤ length (drop 2 left)
   turn-short base at left m m₁ i n h e s o =
       let inside : Inside at (drop 2 left) i = rw e (sound-turn base at left h s .1) in
       let P : Outcome V → Type 0 = Short (length (drop 2 left)) in
       subst P (sym o) (short-step k seen p at (drop 2 left) i m inside)
 
   pub turn-again :
-    (base at : ℕ) (left : List ℤ) (steps : ℕ) (m m₁ : Machine V) (i : Instr) (n : ℕ)
-    → 2 ≤ length left
-    → i ≡ decoded (getD left 0 (pos 0)) (getD left 1 (pos 0))
-    → Sound base at left
-    → skip n m₁ ≡ step k seen p at i m
-    → (run k seen p (at + (1 + n)) (drop (2 * n) (drop 2 left)) 0 (steps + 1) m₁ ≡ run k seen p at left 0 steps m)
+      (base at : ℕ) (left : List ℤ) (steps : ℕ) (m m₁ : Machine V) (i : Instr) (n : ℕ)
+      → 2 ≤ length left
+      → i ≡ decoded (getD left 0 (pos 0)) (getD left 1 (pos 0))
+      → Sound base at left
+      → skip n m₁ ≡ step k seen p at i m
+      → (run k seen p (at + (1 + n)) (drop (2 * n) (drop 2 left)) 0 (steps + 1) m₁ ≡ run k seen p at left 0 steps m)
       × Sound base (at + (1 + n)) (drop (2 * n) (drop 2 left))
   turn-again base at left steps m m₁ i n h e s o =
       let few : 2 * n ≤ length (drop 2 left) = turn-short base at left m m₁ i n h e s o in
-      let f : at + (1 + n) ≡ (at + 1) + n = omega arith in
-      ( rw f
-        ( sym (run-skip k seen p n (at + 1) (drop 2 left) (steps + 1) m₁ few)
-        ∙ ap (λ (q : Outcome V). follow q (steps + 1) (λ j m₂. run k seen p (at + 1) (drop 2 left) j (steps + 1) m₂)) (o ∙ ap (λ (j : Instr). step k seen p at j m) e)
-        ∙ sym (run-turn k seen p at left steps m h) )
-      , rw f (sound-skip n base (at + 1) (drop 2 left) few (sound-turn base at left h s .2)) )
+      let f : at + (1 + n) ≡ (at + 1) + n = omega arith in (
+        rw f
+            (sym (run-skip k seen p n (at + 1) (drop 2 left) (steps + 1) m₁ few)
+            ∙ ap (λ (q : Outcome V). follow q (steps + 1) (λ j m₂. run k seen p (at + 1) (drop 2 left) j (steps + 1) m₂)) (o ∙ ap (λ (j : Instr). step k seen p at j m) e)
+            ∙ sym (run-turn k seen p at left steps m h)),
+        rw f (sound-skip n base (at + 1) (drop 2 left) few (sound-turn base at left h s .2)),
+      )

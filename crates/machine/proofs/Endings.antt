@@ -67,36 +67,36 @@ module _ {V F : Type 0} (k : Ops V) (code : List ℤ) (w : World V) where
 
   -- the same for a scan that went well, and for one that was given up, as the host and the count then stand
   pub goes-well :
-    (n : ℕ) (puts : List (Option ℤ)) (cells : List V) (board : Board) (scans : ℕ) (seen levels latch held : List ℤ)
-    → seen ≡ sensed levels
-    → advanced n puts cells board ≡ advance k seen code (w .cells) (w .board)
-    → scans ≡ counted (w .scans)
-    → latch ≡ levels
-    → held ≡ settled puts (w .held)
-    → (let r : Scanned V F = record { told = steps n; world = record { cells = cells; board = board; scans = scans; latch = latch; held = held } } in r) ≡ ended code levels w (swept-on k code levels w)
+      (n : ℕ) (puts : List (Option ℤ)) (cells : List V) (board : Board) (scans : ℕ) (seen levels latch held : List ℤ)
+      → seen ≡ sensed levels
+      → advanced n puts cells board ≡ advance k seen code (w .cells) (w .board)
+      → scans ≡ counted (w .scans)
+      → latch ≡ levels
+      → held ≡ settled puts (w .held)
+      → (let r : Scanned V F = record { told = steps n; world = record { cells = cells; board = board; scans = scans; latch = latch; held = held } } in r) ≡ ended code levels w (swept-on k code levels w)
   goes-well n puts cells board scans seen levels latch held s a c l h = rw (c, l, h) (told-is (advanced n puts cells board) seen levels s a)
 
   pub is-given-up :
-    (e : GivenUp) (r : ScanRefusal F) (cells : List V) (board : Board) (seen levels : List ℤ)
-    → seen ≡ sensed levels
-    → r ≡ refusal-of (e .fault) (e .place)
-    → gave-up (e .fault) (e .place .process) (e .place .state) cells board ≡ advance k seen code (w .cells) (w .board)
-    → (let x : Scanned V F = record { told = told (Err r); world = record { cells = cells; board = board; scans = w .scans; latch = levels; held = w .held } } in x) ≡ ended code levels w (swept-on k code levels w)
+      (e : GivenUp) (r : ScanRefusal F) (cells : List V) (board : Board) (seen levels : List ℤ)
+      → seen ≡ sensed levels
+      → r ≡ refusal-of (e .fault) (e .place)
+      → gave-up (e .fault) (e .place .process) (e .place .state) cells board ≡ advance k seen code (w .cells) (w .board)
+      → (let x : Scanned V F = record { told = told (Err r); world = record { cells = cells; board = board; scans = w .scans; latch = levels; held = w .held } } in x) ≡ ended code levels w (swept-on k code levels w)
   is-given-up e r cells board seen levels s is a =
       ap (λ (x : Told F). let y : Scanned V F = record { told = x; world = record { cells = cells; board = board; scans = w .scans; latch = levels; held = w .held } } in y)
-        (ap (λ (x : ScanRefusal F). told (Err x)) is ∙ told-refusal (e .fault) (e .place))
+      (ap (λ (x : ScanRefusal F). told (Err x)) is ∙ told-refusal (e .fault) (e .place))
       ∙ told-is (gave-up (e .fault) (e .place .process) (e .place .state) cells board) seen levels s a
 
   -- a scan of the right kind, with room and lines enough, on a host that is up
   pub scan-goes :
-    (work : ℕ) (pins : Pins F) (levels : List ℤ)
-    → same-word (at code 0) (k .number) ≡ true
-    → word code 2 + 16 ≤ work
-    → word code 2 ≤ length (w .cells)
-    → word code 3 ≤ length (w .latch)
-    → word code 4 ≤ length (w .held)
-    → pins ≡ up levels
-    → ended code levels w (swept-on k code levels w) ≡ scan k code work pins w
+      (work : ℕ) (pins : Pins F) (levels : List ℤ)
+      → same-word (at code 0) (k .number) ≡ true
+      → word code 2 + 16 ≤ work
+      → word code 2 ≤ length (w .cells)
+      → word code 3 ≤ length (w .latch)
+      → word code 4 ≤ length (w .held)
+      → pins ≡ up levels
+      → ended code levels w (swept-on k code levels w) ≡ scan k code work pins w
   scan-goes work pins levels e a b c d p =
       let a₁ : ltb work (word code 2 + 16) ≡ false = le-ltb work (word code 2 + 16) a in
       let b₁ : ltb (length (w .cells)) (word code 2) ≡ false = le-ltb (length (w .cells)) (word code 2) b in
@@ -106,9 +106,9 @@ module _ {V F : Type 0} (k : Ops V) (code : List ℤ) (w : World V) where
 
 -- the end of a scan reads of the host only its held outputs
 pub ended-host : {V F : Type 0} (k : Ops V) (code levels latch latch′ held held′ : List ℤ) (cells : List V) (board : Board) (scans : ℕ)
-  → held′ ≡ held
-  → (let w : List ℤ → List ℤ → World V = λ l h. record { cells = cells; board = board; scans = scans; latch = l; held = h } in
-     ended {F = F} code levels (w latch′ held′) (swept-on k code levels (w latch′ held′)) ≡ ended code levels (w latch held) (swept-on k code levels (w latch held)))
+    → held′ ≡ held
+    → (let w : List ℤ → List ℤ → World V = λ l h. record { cells = cells; board = board; scans = scans; latch = l; held = h } in
+    ended {F = F} code levels (w latch′ held′) (swept-on k code levels (w latch′ held′)) ≡ ended code levels (w latch held) (swept-on k code levels (w latch held)))
 ended-host {V} {F} k code levels latch latch′ held held′ cells board scans e =
     ap (λ (h : List ℤ). let w : World V = record { cells = cells; board = board; scans = scans; latch = latch′; held = h } in ended {F = F} code levels w (swept-on k code levels w)) e
     ∙ any-latch (swept-on k code levels (record { cells = cells; board = board; scans = scans; latch = latch; held = held }))

@@ -37,7 +37,7 @@ module _ {V : Type 0} (F : Type 0) (k : Ops V) (code : List ℤ) (w : World V) w
   after-sample (down f) = (refl, refl)
 
   after-tests : (a b : Bool) (pins : Pins F)
-    → (let r : Scanned V F = cond a (record { told = refused 10; world = w }) (cond b (record { told = refused 11; world = w }) (sampled k code pins w)) in After pins w (r .told) (r .world))
+      → (let r : Scanned V F = cond a (record { told = refused 10; world = w }) (cond b (record { told = refused 11; world = w }) (sampled k code pins w)) in After pins w (r .told) (r .world))
   after-tests true b pins = refl
   after-tests false true pins = refl
   after-tests false false pins = after-sample pins

@@ -61,13 +61,79 @@ module _ (h : Head) (i : ℕ) (rest : List ℤ) (few-in : h .inputs ≤ 32) (few
       let line : (n : ℕ) → n ≤ 32 → (x : ℤ) → under n x ≡ true → (natural x < 32) × Unit {0} = λ n few x e. let b = below n x e in (omega arith, tt) in
       let input = line (h .inputs) few-in in
       let output = line (h .outputs) few-out in
-      let process = line (h .processes) few-procs in
-      ( λ x e. (tt, tt) , (λ x e. (tt, tt) , (cell , (input , (output , (λ x e. (tt, tt) , (λ x e. (tt, tt)
-      , (λ x e. (tt, tt) , (λ x e. (tt, tt) , (λ x e. (tt, tt) , (λ x e. (tt, tt) , (λ x e. (tt, tt) , (λ x e. (tt, tt)
-      , (λ x e. (tt, tt) , (λ x e. (tt, tt)
-      , (forward , (forward , (cell , (output
-      , (λ x e. (below 16 x e, tt) , (process , (process , (λ x e. (tt, tt) , (λ x e. (tt, tt)
-      , (λ x e. (tt, tt) , (process , (process , (process , tt))))))))))))))))))))))))))))
+      let process = line (h .processes) few-procs in (
+        λ x e. (tt, tt),
+        (
+          λ x e. (tt, tt),
+          (
+            cell,
+            (
+              input,
+              (
+                output,
+                (
+                  λ x e. (tt, tt),
+                  (
+                    λ x e. (tt, tt),
+                    (
+                      λ x e. (tt, tt),
+                      (
+                        λ x e. (tt, tt),
+                        (
+                          λ x e. (tt, tt),
+                          (
+                            λ x e. (tt, tt),
+                            (
+                              λ x e. (tt, tt),
+                              (
+                                λ x e. (tt, tt),
+                                (
+                                  λ x e. (tt, tt),
+                                  (
+                                    λ x e. (tt, tt),
+                                    (
+                                      forward,
+                                      (
+                                        forward,
+                                        (
+                                          cell,
+                                          (
+                                            output,
+                                            (
+                                              λ x e. (below 16 x e, tt),
+                                              (
+                                                process,
+                                                (
+                                                  process,
+                                                  (
+                                                    λ x e. (tt, tt),
+                                                    (
+                                                      λ x e. (tt, tt),
+                                                      (λ x e. (tt, tt), (process, (process, (process, tt)))),
+                                                    ),
+                                                  ),
+                                                ),
+                                              ),
+                                            ),
+                                          ),
+                                        ),
+                                      ),
+                                    ),
+                                  ),
+                                ),
+                              ),
+                            ),
+                          ),
+                        ),
+                      ),
+                    ),
+                  ),
+                ),
+              ),
+            ),
+          ),
+        ),
+      )
 
   -- a number that is not among the 28 does not fit
   unknown : (o : ℕ) (x : ℤ) → 28 ≤ o → operand-fits h i o x ≡ false
@@ -101,7 +167,7 @@ runnable code y =
     let total = count-of 1 4096 (at code 6) (y .instructions) in
     let long = body-size code (y .size) in
     let all : Sound (word code 2) 0 (body code 0) =
-        fit-sound (head code) (count-of 0 32 (at code 3) (y .inputs) .1) (count-of 0 32 (at code 4) (y .outputs) .1) (procs .1) 0 (body code 0) (instructions-of-layout code y) (omega arith) in
+    fit-sound (head code) (count-of 0 32 (at code 3) (y .inputs) .1) (count-of 0 32 (at code 4) (y .outputs) .1) (procs .1) 0 (body code 0) (instructions-of-layout code y) (omega arith) in
     record {
       few-cells = count-of 0 64 (at code 2) (y .cells) .1;
       few-processes = procs .1;
@@ -110,8 +176,8 @@ runnable code y =
       few-states = λ q l. count-of 1 16 (states-word code q) (y .some-states q l) .1;
       entries = λ q s l k. let e = count-of 0 (word code 6 - 1) _ (y .entries q s l k) in let some = total .0 in omega arith;
       sound = λ i l.
-        let start : 7 + 17 * word code 5 + 2 * 0 + 2 * i ≡ 7 + 17 * word code 5 + 2 * i = omega arith in
-        let here : drop (2 * i) (body code 0) ≡ body code i = drop-drop (2 * i) (7 + 17 * word code 5 + 2 * 0) code ∙ ap (λ (n : ℕ). drop n code) start in
-        let z : 0 + i ≡ i = omega arith in
-        rw (← here) (rw z at (sound-skip i (word code 2) 0 (body code 0) (omega arith) all));
+          let start : 7 + 17 * word code 5 + 2 * 0 + 2 * i ≡ 7 + 17 * word code 5 + 2 * i = omega arith in
+          let here : drop (2 * i) (body code 0) ≡ body code i = drop-drop (2 * i) (7 + 17 * word code 5 + 2 * 0) code ∙ ap (λ (n : ℕ). drop n code) start in
+          let z : 0 + i ≡ i = omega arith in
+          rw (← here) (rw z at (sound-skip i (word code 2) 0 (body code 0) (omega arith) all));
     }

@@ -47,10 +47,10 @@ module _ {V : Type 0} (d : V) where
 
 module _ {V : Type 0} (k : Ops V) (base : ℕ) where
   pub meaning-push :
-    (w : List V) (t : Running) (v : V)
-    → base + 16 ≤ length w
-    → t .depth < 16
-    → skip 0 (meaning k base (set w (base + t .depth) v) (record { depth = t .depth + 1; board = t .board; puts = t .puts })) ≡ push v (meaning k base w t)
+      (w : List V) (t : Running) (v : V)
+      → base + 16 ≤ length w
+      → t .depth < 16
+      → skip 0 (meaning k base (set w (base + t .depth) v) (record { depth = t .depth + 1; board = t .board; puts = t .puts })) ≡ push v (meaning k base w t)
   meaning-push w t v room h =
       let full : ltb (length (stack (k .zero) w base (t .depth))) 16 ≡ true = rw stack-length (lt-ltb (t .depth) 16 h) in
       let s : stack (k .zero) (set w (base + t .depth) v) base (t .depth + 1) ≡ v ∷ stack (k .zero) w base (t .depth) = stack-push (k .zero) w base (t .depth) v (omega arith) in
@@ -58,34 +58,34 @@ module _ {V : Type 0} (k : Ops V) (base : ℕ) where
       rw (full, s, c) refl
 
   pub meaning-full :
-    (w : List V) (t : Running) (v : V)
-    → 16 ≤ t .depth
-    → no-room ≡ push v (meaning k base w t)
+      (w : List V) (t : Running) (v : V)
+      → 16 ≤ t .depth
+      → no-room ≡ push v (meaning k base w t)
   meaning-full w t v h =
       let full : ltb (length (stack (k .zero) w base (t .depth))) 16 ≡ false = rw stack-length (le-ltb (t .depth) 16 h) in
       rw full refl
 
   pub meaning-pop :
-    (w : List V) (t : Running) (v : V)
-    → 0 < t .depth
-    → v ≡ getD w (base + (t .depth - 1)) (k .zero)
-    → with-stack (v ∷ stack (k .zero) w base (t .depth - 1)) (meaning k base w (record { depth = t .depth - 1; board = t .board; puts = t .puts })) ≡ meaning k base w t
+      (w : List V) (t : Running) (v : V)
+      → 0 < t .depth
+      → v ≡ getD w (base + (t .depth - 1)) (k .zero)
+      → with-stack (v ∷ stack (k .zero) w base (t .depth - 1)) (meaning k base w (record { depth = t .depth - 1; board = t .board; puts = t .puts })) ≡ meaning k base w t
   meaning-pop w t v h e =
       let s : v ∷ stack (k .zero) w base (t .depth - 1) ≡ stack (k .zero) w base (t .depth) = ap (λ (x : V). x ∷ stack (k .zero) w base (t .depth - 1)) e ∙ stack-pop (k .zero) w base (t .depth) h in
       ap (λ (xs : List V). with-stack xs (meaning k base w t)) s
 
   pub meaning-empty :
-    (w : List V) (t : Running)
-    → t .depth ≡ 0
-    → with-stack [] (meaning k base w t) ≡ meaning k base w t
+      (w : List V) (t : Running)
+      → t .depth ≡ 0
+      → with-stack [] (meaning k base w t) ≡ meaning k base w t
   meaning-empty w t e =
       ap (λ (n : ℕ). with-stack (stack (k .zero) w base n) (meaning k base w t)) (sym e)
 
   -- a write to a cell
   pub meaning-keep :
-    (w : List V) (t : Running) (i : ℕ) (v : V)
-    → i < base
-    → meaning k base (set w i v) t ≡ with-cells (set (take base w) i v) (meaning k base w t)
+      (w : List V) (t : Running) (i : ℕ) (v : V)
+      → i < base
+      → meaning k base (set w i v) t ≡ with-cells (set (take base w) i v) (meaning k base w t)
   meaning-keep w t i v h =
       let s : stack (k .zero) (set w i v) base (t .depth) ≡ stack (k .zero) w base (t .depth) = stack-below (k .zero) w base (t .depth) i v h in
       let c : take base (set w i v) ≡ set (take base w) i v = take-set-lt base w i v h in

@@ -21,14 +21,14 @@ use Rattle.machine.specs.Memory.{ran, given-up, Sound, Runnable}
 
 -- what the run of a body asks
 pub body-sound :
-  (code : List ℤ) (q s e base : ℕ) (words : List ℤ)
-  → Runnable code
-  → q < word code 5
-  → s < states code q
-  → e ≡ entry code q s
-  → base ≡ word code 2
-  → words ≡ body code e
-  → Sound base e words × (e * 2 + length words ≤ 8192)
+    (code : List ℤ) (q s e base : ℕ) (words : List ℤ)
+    → Runnable code
+    → q < word code 5
+    → s < states code q
+    → e ≡ entry code q s
+    → base ≡ word code 2
+    → words ≡ body code e
+    → Sound base e words × (e * 2 + length words ≤ 8192)
 body-sound code q s e base words y h l is b w =
     let few : e < word code 6 = rw is (y .entries q s h l) in
     let size : length (body code e) ≡ length code - (7 + 17 * word code 5 + 2 * e) = length-drop (7 + 17 * word code 5 + 2 * e) code in
@@ -38,13 +38,13 @@ body-sound code q s e base words y h l is b w =
 
 module _ {V : Type 0} (k : Ops V) (seen code : List ℤ) (q : ℕ) (m : Machine V) where
   pub visit-runs :
-    (r : Ran V) (s e : ℕ) (words : List ℤ)
-    → s ≡ state (m .board) q
-    → s < states code q
-    → e ≡ entry code q s
-    → words ≡ body code e
-    → r ≡ run k seen q e words 0 0 (with-stack [] m)
-    → r ≡ visit k seen code q m
+      (r : Ran V) (s e : ℕ) (words : List ℤ)
+      → s ≡ state (m .board) q
+      → s < states code q
+      → e ≡ entry code q s
+      → words ≡ body code e
+      → r ≡ run k seen q e words 0 0 (with-stack [] m)
+      → r ≡ visit k seen code q m
   visit-runs r s e words is l at w h =
       let yes : ltb (state (m .board) q) (states code q) ≡ true = rw (← is) (lt-ltb s (states code q) l) in
       rw (yes, ← is, ← at, ← w) h
@@ -52,9 +52,9 @@ module _ {V : Type 0} (k : Ops V) (seen code : List ℤ) (q : ℕ) (m : Machine 
 module _ {V : Type 0} (k : Ops V) (seen code : List ℤ) where
   -- the turn of process q, of n
   pub sweep-turn :
-    (n q steps : ℕ) (m : Machine V)
-    → q < n
-    → sweep k seen code (n - q) q steps m ≡ onward (visit k seen code q m) q (state (m .board) q) (λ j m₁. sweep k seen code (n - (q + 1)) (q + 1) (steps + j) m₁)
+      (n q steps : ℕ) (m : Machine V)
+      → q < n
+      → sweep k seen code (n - q) q steps m ≡ onward (visit k seen code q m) q (state (m .board) q) (λ j m₁. sweep k seen code (n - (q + 1)) (q + 1) (steps + j) m₁)
   sweep-turn n q steps m h =
       let e : n - q ≡ suc (n - (q + 1)) = omega arith in
       rw e refl
@@ -65,20 +65,20 @@ module _ {V : Type 0} (k : Ops V) (seen code : List ℤ) where
       rw e refl
 
   pub sweep-again :
-    (n q steps j : ℕ) (m m₁ : Machine V)
-    → q < n
-    → done j m₁ ≡ visit k seen code q m
-    → sweep k seen code (n - (q + 1)) (q + 1) (steps + j) m₁ ≡ sweep k seen code (n - q) q steps m
+      (n q steps j : ℕ) (m m₁ : Machine V)
+      → q < n
+      → done j m₁ ≡ visit k seen code q m
+      → sweep k seen code (n - (q + 1)) (q + 1) (steps + j) m₁ ≡ sweep k seen code (n - q) q steps m
   sweep-again n q steps j m m₁ h e =
       ap (λ (r : Ran V). onward r q (state (m .board) q) (λ i m₂. sweep k seen code (n - (q + 1)) (q + 1) (steps + i) m₂)) e
       ∙ sym (sweep-turn n q steps m h)
 
   pub sweep-stop :
-    (n q steps s : ℕ) (f : Fault) (m m₁ : Machine V)
-    → q < n
-    → s ≡ state (m .board) q
-    → ran (Err f) m₁ ≡ visit k seen code q m
-    → given-up f q s ≡ sweep k seen code (n - q) q steps m
+      (n q steps s : ℕ) (f : Fault) (m m₁ : Machine V)
+      → q < n
+      → s ≡ state (m .board) q
+      → ran (Err f) m₁ ≡ visit k seen code q m
+      → given-up f q s ≡ sweep k seen code (n - q) q steps m
   sweep-stop n q steps s f m m₁ h is e =
       refused f
       ∙ ap (λ (r : Ran V). onward r q (state (m .board) q) (λ i m₂. sweep k seen code (n - (q + 1)) (q + 1) (steps + i) m₂)) e

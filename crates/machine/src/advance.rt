@@ -5,12 +5,12 @@ ghost use Prim.Native.Nat.{ℕ, _+_, _≤_};
 ghost use lib.ListN.{length, take, drop};
 ghost use Rattle.flat.specs.Words.{word};
 ghost use Rattle.machine.specs.Memory.{Runnable, advance as advanced, advances};
-use flat::words::count_at;
-use kinds::Kind;
 use crate::board::Board;
 use crate::step::Running;
 use crate::sweep::GivenUp;
 use crate::sweep::sweep;
+use flat::words::count_at;
+use kinds::Kind;
 
 // Copies the first `n` values of `from` over those of `to`.
 fn copy_front<K: Kind>(to: &mut [K], from: &[K], n: usize)
@@ -23,7 +23,13 @@ fn copy_front<K: Kind>(to: &mut [K], from: &[K], n: usize)
 }
 
 // Runs all processes on a copy of cells and board, and takes the copy over if none is given up: the steps and the levels put.
-pub(crate) fn advance<K: Kind>(code: &[i32], cells: &mut [K], board: &mut Board, work: &mut [K], seen: &[i32; 32]) -> Result<(u32, [Option<i32>; 32]), GivenUp>
+pub(crate) fn advance<K: Kind>(
+    code: &[i32],
+    cells: &mut [K],
+    board: &mut Board,
+    work: &mut [K],
+    seen: &[i32; 32],
+) -> Result<(u32, [Option<i32>; 32]), GivenUp>
     requires code { ⌜ Runnable (now code) ⌝ }
     requires cells { ⌜ word (now code) 2 ≤ length (now cells) ⌝ }
     requires room { ⌜ word (now code) 2 + 16 ≤ length (now work) ⌝ }
@@ -31,7 +37,11 @@ pub(crate) fn advance<K: Kind>(code: &[i32], cells: &mut [K], board: &mut Board,
 {
     let n = count_at(code, 2);
     copy_front(work, cells, n);
-    let mut t = Running { depth: 0, board: *board, puts: [None; 32] };
+    let mut t = Running {
+        depth: 0,
+        board: *board,
+        puts: [None; 32],
+    };
     match sweep(code, work, n, &mut t, seen) {
         Err(stop) => Err(stop),
         Ok(steps) => {

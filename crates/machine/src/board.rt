@@ -23,9 +23,15 @@ impl Board {
     pub fn new() -> Board
         ensures { λ r. ⌜ r ≡ «first-board» ⌝ }
     {
-        let mut rows = [Row { state: 255, clock: 0 }; 32];
+        let mut rows = [Row {
+            state: 255,
+            clock: 0,
+        }; 32];
         rows[0] = Row { state: 0, clock: 0 };
-        Board { rows, levels: [0; 32] }
+        Board {
+            rows,
+            levels: [0; 32],
+        }
     }
 
     // The state of process `p`.
@@ -44,12 +50,12 @@ impl Board {
         self.rows[p].clock
     }
 
-    // Gives process `p` the state `next` and the clock 0, and keeps all else.
-    pub(crate) fn enter(&mut self, p: usize, next: u8)
+    // Gives process `p` the state `s` and the clock 0, and keeps all else.
+    pub(crate) fn enter(&mut self, p: usize, s: u8)
         requires { ⌜ p < 32 ⌝ }
-        ensures { λ _. ⌜ now (self .exit) ≡ enter p next (now (self .entry)) ⌝ }
+        ensures { λ _. ⌜ now (self .exit) ≡ enter p s (now (self .entry)) ⌝ }
     {
-        self.rows[p] = Row { state: next, clock: 0 };
+        self.rows[p] = Row { state: s, clock: 0 };
     }
 
     // Sets the clock of process `p` to 0, and keeps all else.

@@ -5,15 +5,23 @@ ghost use lib.ListN.{length};
 ghost use Rattle.std.specs.Vec.{made};
 ghost use Rattle.machine.specs.Body.{run as runs};
 ghost use Rattle.machine.specs.Memory.{meaning, ran, Sound};
-use flat::instr::decode;
-use kinds::Kind;
 use crate::step::Fault;
 use crate::step::Flow;
 use crate::step::Running;
 use crate::step::step;
+use flat::instr::decode;
+use kinds::Kind;
 
 // Runs the body whose first instruction is `first` and stands at the front of `words`: the steps taken.
-pub(crate) fn run<K: Kind>(words: &[i32], first: usize, work: &mut [K], base: usize, t: &mut Running, seen: &[i32; 32], p: usize) -> Result<u32, Fault>
+pub(crate) fn run<K: Kind>(
+    words: &[i32],
+    first: usize,
+    work: &mut [K],
+    base: usize,
+    t: &mut Running,
+    seen: &[i32; 32],
+    p: usize,
+) -> Result<u32, Fault>
     requires room { ⌜ base + 16 ≤ length (now work) ⌝ }
     requires shallow { ⌜ now t .depth ≤ 16 ⌝ }
     requires process { ⌜ p < 32 ⌝ }

@@ -8,14 +8,14 @@ ghost use Rattle.flat.specs.Layout.{Holds};
 ghost use Rattle.machine.specs.Scan.{«same-word», «swept-on», ended};
 ghost use Rattle.machine.specs.Calls.{told, Scans, Untouched};
 ghost use Rattle.machine.specs.Memory.{Runnable, Latches};
+use crate::advance::advance;
+use crate::board::Board;
+use crate::refusal::ScanRefusal;
 use flat::head::Head;
 use hosts::Host;
 use hosts::levels::put_all;
 use hosts::levels::sense;
 use kinds::Kind;
-use crate::advance::advance;
-use crate::board::Board;
-use crate::refusal::ScanRefusal;
 
 // A run that was started: it holds its code with the code's head, and counts its scans.
 #[derive(Drop)]
@@ -49,7 +49,11 @@ impl<'a> Live<'a> {
         ensures head { λ r. ⌜ r .head ≡ head ⌝ }
         ensures scans { λ r. ⌜ r .scans ≡ 0 ⌝ }
     {
-        Live { code, head, scans: 0 }
+        Live {
+            code,
+            head,
+            scans: 0,
+        }
     }
 
     // The head of the run's code.
@@ -63,12 +67,22 @@ impl<'a> Live<'a> {
     pub fn halt(self) -> u64
         ensures { λ r. ⌜ r ≡ self .entry .scans ⌝ }
     {
-        let Live { code: _, head: _, scans } = self;
+        let Live {
+            code: _,
+            head: _,
+            scans,
+        } = self;
         scans
     }
 
     // One scan: samples the host, runs each process in order, and puts the outputs; the answer is the steps taken.
-    pub fn scan<K: Kind, H: Host>(&mut self, cells: &mut [K], work: &mut [K], board: &mut Board, host: &mut H) -> Result<u32, ScanRefusal<H::Fault>>
+    pub fn scan<K: Kind, H: Host>(
+        &mut self,
+        cells: &mut [K],
+        work: &mut [K],
+        board: &mut Board,
+        host: &mut H,
+    ) -> Result<u32, ScanRefusal<H::Fault>>
         requires mounted { ⌜ Holds (now (now self .code)) (now self .head) ⌝ }
         ensures result { λ r. ⌜ Scans ops means (now (now (self .entry) .code)) (length (now (work .entry))) (record { cells = now (cells .entry); board = now (board .entry); scans = now (self .entry) .scans; host = now (host .entry) }) r (record { cells = now (cells .exit); board = now (board .exit); scans = now (self .exit) .scans; host = now (host .exit) }) ⌝ }
         ensures untouched { λ r. ⌜ Untouched r (now (host .entry)) (now (host .exit)) ⌝ }
@@ -78,7 +92,11 @@ impl<'a> Live<'a> {
         if !is_kind::<K>(self.head.kind) {
             return Err(ScanRefusal::OtherKind);
         }
-        if work.len() < self.head.cells + 16 || cells.len() < self.head.cells || host.inputs() < self.head.inputs || host.outputs() < self.head.outputs {
+        if work.len() < self.head.cells + 16
+            || cells.len() < self.head.cells
+            || host.inputs() < self.head.inputs
+            || host.outputs() < self.head.outputs
+        {
             return Err(ScanRefusal::Short);
         }
         sample(host)?;
@@ -86,7 +104,13 @@ impl<'a> Live<'a> {
     }
 
     // The scan from the latched levels on.
-    fn proceed<K: Kind, H: Host>(&mut self, cells: &mut [K], work: &mut [K], board: &mut Board, host: &mut H) -> Result<u32, ScanRefusal<H::Fault>>
+    fn proceed<K: Kind, H: Host>(
+        &mut self,
+        cells: &mut [K],
+        work: &mut [K],
+        board: &mut Board,
+        host: &mut H,
+    ) -> Result<u32, ScanRefusal<H::Fault>>
         requires code { ⌜ Runnable (now (now self .code)) ⌝ }
         requires cells { ⌜ word (now (now self .code)) 2 ≤ length (now cells) ⌝ }
         requires room { ⌜ word (now (now self .code)) 2 + 16 ≤ length (now work) ⌝ }

@@ -4,16 +4,16 @@ ghost use mathlib.Core.List.{_++_};
 ghost use Prim.Native.Nat.{ℕ, _≤_};
 ghost use lib.ListN.{length, replicate, drop};
 ghost use Rattle.machine.specs.Calls.{Mounts, Starts};
-use flat::head::Head;
-use flat::layout::read_head;
-use hosts::Host;
-use hosts::levels::clear_lines;
-use kinds::Kind;
 use crate::board::Board;
 use crate::live::Live;
 use crate::live::is_kind;
 use crate::refusal::MountRefusal;
 use crate::refusal::StartRefusal;
+use flat::head::Head;
+use flat::layout::read_head;
+use hosts::Host;
+use hosts::levels::clear_lines;
+use kinds::Kind;
 
 // A code of the layout, with its head, that was not started yet.
 #[derive(Drop)]
@@ -51,13 +51,21 @@ impl<'a> Mounted<'a> {
     }
 
     // Starts a run: the code's cells, the board and the host's lines for the code's outputs are set to the beginning.
-    pub fn start<K: Kind, H: Host>(self, cells: &mut [K], board: &mut Board, host: &mut H) -> Result<Live<'a>, StartRefusal>
+    pub fn start<K: Kind, H: Host>(
+        self,
+        cells: &mut [K],
+        board: &mut Board,
+        host: &mut H,
+    ) -> Result<Live<'a>, StartRefusal>
         ensures { λ r. ⌜ Starts ops means (self .entry) (record { cells = now (cells .entry); board = now (board .entry); scans = 0; host = now (host .entry) }) r (record { cells = now (cells .exit); board = now (board .exit); scans = 0; host = now (host .exit) }) ⌝ }
     {
         if !is_kind::<K>(self.head.kind) {
             return Err(StartRefusal::OtherKind);
         }
-        if cells.len() < self.head.cells || host.inputs() < self.head.inputs || host.outputs() < self.head.outputs {
+        if cells.len() < self.head.cells
+            || host.inputs() < self.head.inputs
+            || host.outputs() < self.head.outputs
+        {
             return Err(StartRefusal::Short);
         }
         clear_cells(cells, self.head.cells);

@@ -5,6 +5,7 @@ ghost use Prim.Native.Nat.{ℕ, _+_, _<_, _≤_};
 ghost use lib.ListN.{length, take, getD, set};
 ghost use Rattle.machine.specs.Machine.{push as pushed, value as given, converted, combined, controlled, step as stepped, passive};
 ghost use Rattle.machine.specs.Memory.{meaning, outcome, restored, InRange, SourceInRange, ControlInRange};
+use crate::board::Board;
 use flat::instr::Binary;
 use flat::instr::Control;
 use flat::instr::Instr;
@@ -13,7 +14,6 @@ use flat::instr::Unary;
 use kinds::Kind;
 use kinds::NoQuotient;
 use kinds::truth_value;
-use crate::board::Board;
 
 // How a body goes on after an instruction: it is over, or goes on past so many instructions.
 #[derive(Clone, Copy)]
@@ -126,7 +126,15 @@ fn control(board: &mut Board, p: usize, c: Control)
 }
 
 // Runs instruction `i`, which is `instr`, of process `p`.
-pub(crate) fn step<K: Kind>(work: &mut [K], base: usize, t: &mut Running, seen: &[i32; 32], p: usize, i: usize, instr: Instr) -> Result<Flow, Fault>
+pub(crate) fn step<K: Kind>(
+    work: &mut [K],
+    base: usize,
+    t: &mut Running,
+    seen: &[i32; 32],
+    p: usize,
+    i: usize,
+    instr: Instr,
+) -> Result<Flow, Fault>
     requires { ⌜ base + 16 ≤ length (now work) ⌝ ∗ ⌜ now t .depth ≤ 16 ⌝ ∗ ⌜ p < 32 ⌝ ∗ ⌜ InRange base i instr ⌝ }
     ensures { λ r. ⌜ outcome r (meaning ops base (now (work .exit)) (now (t .exit))) ≡ stepped ops (now (seen .entry)) p i instr (meaning ops base (now (work .entry)) (now (t .entry))) ⌝ }
     ensures { λ r. ⌜ now (t .exit) .depth ≤ 16 ⌝ }
@@ -160,7 +168,11 @@ pub(crate) fn step<K: Kind>(work: &mut [K], base: usize, t: &mut Running, seen: 
             let Some(a) = pop(work, base, t) else {
                 return Err(Fault::Stack);
             };
-            if a.is_true() { Ok(Flow::Skip(0)) } else { Ok(Flow::Skip(x - (i + 1))) }
+            if a.is_true() {
+                Ok(Flow::Skip(0))
+            } else {
+                Ok(Flow::Skip(x - (i + 1)))
+            }
         }
         Instr::Keep(x) => {
             let Some(a) = pop(work, base, t) else {

@@ -6,13 +6,13 @@ ghost use Rattle.std.specs.Vec.{made};
 ghost use Rattle.flat.specs.Words.{word, body};
 ghost use Rattle.machine.specs.Sweep.{visit as visited, sweep as swept};
 ghost use Rattle.machine.specs.Memory.{meaning, ran, sweeps, Runnable, «refusal-of»};
-use flat::words::count_at;
-use kinds::Kind;
 use crate::body::run;
 use crate::refusal::Place;
 use crate::refusal::ScanRefusal;
 use crate::step::Fault;
 use crate::step::Running;
+use flat::words::count_at;
+use kinds::Kind;
 
 // Why and where a scan is given up.
 #[derive(Clone, Copy)]
@@ -42,7 +42,14 @@ fn body_from(code: &[i32], i: usize) -> &[i32]
 }
 
 // Runs the body of the state that process `q` has, if that is among its states.
-fn visit<K: Kind>(code: &[i32], q: usize, work: &mut [K], base: usize, t: &mut Running, seen: &[i32; 32]) -> Result<u32, Fault>
+fn visit<K: Kind>(
+    code: &[i32],
+    q: usize,
+    work: &mut [K],
+    base: usize,
+    t: &mut Running,
+    seen: &[i32; 32],
+) -> Result<u32, Fault>
     requires layout { ⌜ Runnable (now code) ⌝ }
     requires process { ⌜ q < word (now code) 5 ⌝ }
     requires place { ⌜ base ≡ word (now code) 2 ⌝ }
@@ -62,7 +69,13 @@ fn visit<K: Kind>(code: &[i32], q: usize, work: &mut [K], base: usize, t: &mut R
 }
 
 // Lets each process run, in order: the steps taken.
-pub(crate) fn sweep<K: Kind>(code: &[i32], work: &mut [K], base: usize, t: &mut Running, seen: &[i32; 32]) -> Result<u32, GivenUp>
+pub(crate) fn sweep<K: Kind>(
+    code: &[i32],
+    work: &mut [K],
+    base: usize,
+    t: &mut Running,
+    seen: &[i32; 32],
+) -> Result<u32, GivenUp>
     requires layout { ⌜ Runnable (now code) ⌝ }
     requires place { ⌜ base ≡ word (now code) 2 ⌝ }
     requires room { ⌜ base + 16 ≤ length (now work) ⌝ }
@@ -74,7 +87,10 @@ pub(crate) fn sweep<K: Kind>(code: &[i32], work: &mut [K], base: usize, t: &mut 
         let state = t.board.state(q);
         match visit(code, q, work, base, t, seen) {
             Ok(n) => steps += n,
-            Err(fault) => return Err(GivenUp { fault, place: Place { process: q, state } }),
+            Err(fault) => return Err(GivenUp {
+                fault,
+                place: Place { process: q, state },
+            }),
         }
     }
     Ok(steps)

@@ -94,35 +94,35 @@ module _ {V : Type 0} {k : Ops V} {code : List ℤ} {work : ℕ} {all : List (Pi
 
 -- The row at the index i was scanned, where the code and the size of the working memory are as they were.
 module _ {V X : Type 0} {k : Ops V} {code : List ℤ} {work : ℕ} {all : List (Pins Spent)} {start : World V} {before after : List ℕ} {n : ℕ} {cells : List V} {board : Board} {scans : ℕ}
-  (items : X → List ℤ) (rows : List X) (i : ℕ) (row : X)
-  (l : Listed k code work all start before after n (map (λ x. row-pins code (items x)) (drop i rows)) (at-rest code cells board scans))
-  (less : i < length rows) (is : row ≡ getD rows i row) (levels : List ℤ) (levels-are : levels ≡ items row)
-  (code₁ : List ℤ) (work₁ : ℕ) (same-code : code₁ ≡ code) (same-work : work₁ ≡ work) (cells₁ : List V) (board₁ : Board) (scans₁ : ℕ)
+    (items : X → List ℤ) (rows : List X) (i : ℕ) (row : X)
+    (l : Listed k code work all start before after n (map (λ x. row-pins code (items x)) (drop i rows)) (at-rest code cells board scans))
+    (less : i < length rows) (is : row ≡ getD rows i row) (levels : List ℤ) (levels-are : levels ≡ items row)
+    (code₁ : List ℤ) (work₁ : ℕ) (same-code : code₁ ≡ code) (same-work : work₁ ≡ work) (cells₁ : List V) (board₁ : Board) (scans₁ : ℕ)
   where
-  -- What is printed from it on.
-  goes-on : (t : Told Spent) → (record { told = t; world = at-rest code₁ cells₁ board₁ scans₁ }) ≡ row-scan k code₁ work₁ levels (at-rest code₁ cells board scans) → l .done ++ printed k code work n (map (λ x. row-pins code (items x)) (drop (i + 1) rows)) (record { told = t; world = at-rest code cells₁ board₁ scans₁ }) ≡ listing k code work 1 all start
-  goes-on t e =
-      let ps = map (λ x. row-pins code (items x)) (drop (i + 1) rows) in
-      let first : drop i rows ≡ row ∷ drop (i + 1) rows = drop-more rows i row less ∙ ap (λ x. x ∷ drop (i + 1) rows) (sym is) in
-      let E = λ (c : List ℤ) (m : ℕ) (row : List ℤ). (record { told = t; world = at-rest c cells₁ board₁ scans₁ }) ≡ row-scan k c m row (at-rest c cells board scans) in
-      let scanned : E code work (items row) = subst (E code work) levels-are (subst (λ m. E code m levels) same-work (subst (λ c. E c work₁ levels) same-code e)) in
-      ap (λ x. l .done ++ printed k code work n ps x) scanned
-      ∙ ap (λ z. l .done ++ z) (sym (printed-row k code work n (items row) ps cells board scans))
-      ∙ ap (λ xs. l .done ++ listing k code work n (map (λ x. row-pins code (items x)) xs) (at-rest code cells board scans)) (sym first)
-      ∙ l .goes-on
+    -- What is printed from it on.
+    goes-on : (t : Told Spent) → (record { told = t; world = at-rest code₁ cells₁ board₁ scans₁ }) ≡ row-scan k code₁ work₁ levels (at-rest code₁ cells board scans) → l .done ++ printed k code work n (map (λ x. row-pins code (items x)) (drop (i + 1) rows)) (record { told = t; world = at-rest code cells₁ board₁ scans₁ }) ≡ listing k code work 1 all start
+    goes-on t e =
+        let ps = map (λ x. row-pins code (items x)) (drop (i + 1) rows) in
+        let first : drop i rows ≡ row ∷ drop (i + 1) rows = drop-more rows i row less ∙ ap (λ x. x ∷ drop (i + 1) rows) (sym is) in
+        let E = λ (c : List ℤ) (m : ℕ) (row : List ℤ). (record { told = t; world = at-rest c cells₁ board₁ scans₁ }) ≡ row-scan k c m row (at-rest c cells board scans) in
+        let scanned : E code work (items row) = subst (E code work) levels-are (subst (λ m. E code m levels) same-work (subst (λ c. E c work₁ levels) same-code e)) in
+        ap (λ x. l .done ++ printed k code work n ps x) scanned
+        ∙ ap (λ z. l .done ++ z) (sym (printed-row k code work n (items row) ps cells board scans))
+        ∙ ap (λ xs. l .done ++ listing k code work n (map (λ x. row-pins code (items x)) xs) (at-rest code cells board scans)) (sym first)
+        ∙ l .goes-on
 
-  -- An accepted scan, and its line, are listed.
-  pub listed-more : (m : ℕ) (h : Head) (more : List ℕ) → (record { told = told {F = Spent} (Ok m); world = at-rest code₁ cells₁ board₁ scans₁ }) ≡ row-scan k code₁ work₁ levels (at-rest code₁ cells board scans) → h ≡ head code → more ≡ after ++ scan-line k h n cells₁ board₁ m → Listed k code work all start before more (n + 1) (map (λ x. row-pins code (items x)) (drop (i + 1) rows)) (at-rest code cells₁ board₁ scans₁)
-  listed-more m h more e head-is line =
-      let shown = scan-line k (head code) n cells₁ board₁ m in
-      record {
-        done = l .done ++ shown;
-        bytes = line ∙ ap (λ (x : Head). after ++ scan-line k x n cells₁ board₁ m) head-is ∙ ap (λ z. z ++ shown) (l .bytes) ∙ append-assoc before (l .done) shown;
-        goes-on = append-assoc (l .done) shown _ ∙ goes-on (steps m) e;
-      }
+    -- An accepted scan, and its line, are listed.
+    pub listed-more : (m : ℕ) (h : Head) (more : List ℕ) → (record { told = told {F = Spent} (Ok m); world = at-rest code₁ cells₁ board₁ scans₁ }) ≡ row-scan k code₁ work₁ levels (at-rest code₁ cells board scans) → h ≡ head code → more ≡ after ++ scan-line k h n cells₁ board₁ m → Listed k code work all start before more (n + 1) (map (λ x. row-pins code (items x)) (drop (i + 1) rows)) (at-rest code cells₁ board₁ scans₁)
+    listed-more m h more e head-is line =
+        let shown = scan-line k (head code) n cells₁ board₁ m in
+        record {
+          done = l .done ++ shown;
+          bytes = line ∙ ap (λ (x : Head). after ++ scan-line k x n cells₁ board₁ m) head-is ∙ ap (λ z. z ++ shown) (l .bytes) ∙ append-assoc before (l .done) shown;
+          goes-on = append-assoc (l .done) shown _ ∙ goes-on (steps m) e;
+        }
 
-  -- A refused scan, and its line, end the listing.
-  pub listed-refused : {U E : Type 0} (f : ScanRefusal Spent) (number : ℕ) (r : Result U E) (more : List ℕ) → (record { told = told (Err f); world = at-rest code₁ cells₁ board₁ scans₁ }) ≡ row-scan k code₁ work₁ levels (at-rest code₁ cells board scans) → number ≡ scan-number f → Appended after (refusal-line number n) r more → Appended before (listing k code work 1 all start) r more
-  listed-refused f number r more e is line =
-      let told-so = sym (refusal-printed k code work n _ f (at-rest code cells₁ board₁ scans₁)) in
-      two-parts before (l .done) (refusal-line number n) _ after more r (l .bytes) line (ap (λ m. l .done ++ refusal-line m n) is ∙ ap (λ z. l .done ++ z) told-so ∙ goes-on (told (Err f)) e)
+    -- A refused scan, and its line, end the listing.
+    pub listed-refused : {U E : Type 0} (f : ScanRefusal Spent) (number : ℕ) (r : Result U E) (more : List ℕ) → (record { told = told (Err f); world = at-rest code₁ cells₁ board₁ scans₁ }) ≡ row-scan k code₁ work₁ levels (at-rest code₁ cells board scans) → number ≡ scan-number f → Appended after (refusal-line number n) r more → Appended before (listing k code work 1 all start) r more
+    listed-refused f number r more e is line =
+        let told-so = sym (refusal-printed k code work n _ f (at-rest code cells₁ board₁ scans₁)) in
+        two-parts before (l .done) (refusal-line number n) _ after more r (l .bytes) line (ap (λ m. l .done ++ refusal-line m n) is ∙ ap (λ z. l .done ++ z) told-so ∙ goes-on (told (Err f)) e)

@@ -8,14 +8,14 @@ ghost use Rattle.std.specs.Vec.{made};
 ghost use Rattle.std.specs.Written.{decimal};
 ghost use Rattle.numerals.specs.Print.{Appended, bracketed};
 ghost use Rattle.playback.specs.Lines.{«shown-row», «shown-tail», «scan-line», «refusal-line»};
-use std::alloc::AllocError;
-use std::alloc::Global;
 use flat::head::Head;
 use kinds::Kind;
 use machine::board::Board;
 use machine::board::Row;
 use numerals::push_integers;
 use numerals::push_natural;
+use std::alloc::AllocError;
+use std::alloc::Global;
 
 // Appends some bytes.
 fn push_bytes(out: &mut Vec<u8>, bytes: &[u8]) -> Result<(), AllocError>
@@ -61,7 +61,12 @@ fn push_rows(out: &mut Vec<u8>, rows: &[Row]) -> Result<(), AllocError>
 }
 
 // Appends the cells, the outputs and the steps, and ends the line.
-fn push_tail(out: &mut Vec<u8>, cells: &[i32], outputs: &[i32], steps: u32) -> Result<(), AllocError>
+fn push_tail(
+    out: &mut Vec<u8>,
+    cells: &[i32],
+    outputs: &[i32],
+    steps: u32,
+) -> Result<(), AllocError>
     ensures { λ r. ⌜ Appended (vec-items (now (out .entry))) («shown-tail» (now (cells .entry)) (now (outputs .entry)) steps) r (vec-items (now (out .exit))) ⌝ }
 {
     push_group(out, cells)?;
@@ -89,7 +94,15 @@ fn front<T>(items: &[T], n: usize) -> &[T]
 }
 
 // Appends the line of scan `n`, which took so many steps.
-pub fn push_scan_line<K: Kind>(heap: Global, out: &mut Vec<u8>, head: &Head, n: u64, cells: &[K], board: &Board, steps: u32) -> Result<(), AllocError>
+pub fn push_scan_line<K: Kind>(
+    heap: Global,
+    out: &mut Vec<u8>,
+    head: &Head,
+    n: u64,
+    cells: &[K],
+    board: &Board,
+    steps: u32,
+) -> Result<(), AllocError>
     ensures { λ r. ⌜ Appended (vec-items (now (out .entry))) («scan-line» ops (now (head .entry)) n (now (cells .entry)) (now (board .entry)) steps) r (vec-items (now (out .exit))) ⌝ }
 {
     let raw = written(heap, front(cells, head.cells))?;

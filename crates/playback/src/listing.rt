@@ -7,8 +7,8 @@ ghost use Rattle.flat.specs.Layout.{Holds};
 ghost use Rattle.machine.specs.Calls.{told};
 ghost use Rattle.numerals.specs.Print.{Appended};
 ghost use Rattle.playback.specs.Listing.{«at-rest», listing, «row-pins», «row-scan»};
-use std::alloc::AllocError;
-use std::alloc::Global;
+use crate::lines::push_refusal_line;
+use crate::lines::push_scan_line;
 use hosts::tape::Spent;
 use hosts::tape::Tape;
 use hosts::tape::TapeHost;
@@ -16,11 +16,17 @@ use kinds::Kind;
 use machine::board::Board;
 use machine::live::Live;
 use machine::refusal::ScanRefusal;
-use crate::lines::push_refusal_line;
-use crate::lines::push_scan_line;
+use std::alloc::AllocError;
+use std::alloc::Global;
 
 // Scans once, with just this row at the pins.
-fn scan_row<K: Kind>(live: &mut Live, row: &[i32], cells: &mut [K], work: &mut [K], board: &mut Board) -> Result<u32, ScanRefusal<Spent>>
+fn scan_row<K: Kind>(
+    live: &mut Live,
+    row: &[i32],
+    cells: &mut [K],
+    work: &mut [K],
+    board: &mut Board,
+) -> Result<u32, ScanRefusal<Spent>>
     requires { ⌜ Holds (now (now live .code)) (now live .head) ⌝ }
     ensures result { λ r. ⌜ (record { told = told r; world = «at-rest» (now (now (live .entry) .code)) (now (cells .exit)) (now (board .exit)) (now (live .exit) .scans) }) ≡ «row-scan» ops (now (now (live .entry) .code)) (length (now (work .entry))) (now (row .entry)) («at-rest» (now (now (live .entry) .code)) (now (cells .entry)) (now (board .entry)) (now (live .entry) .scans)) ⌝ }
     ensures code { λ r. ⌜ now (now (live .exit) .code) ≡ now (now (live .entry) .code) ⌝ }
@@ -31,7 +37,15 @@ fn scan_row<K: Kind>(live: &mut Live, row: &[i32], cells: &mut [K], work: &mut [
 }
 
 // Scans once for each row, or to the first refusal, and appends a line for each scan.
-pub(crate) fn list_scans<K: Kind>(heap: Global, out: &mut Vec<u8>, live: &mut Live, rows: &[Vec<i32>], cells: &mut [K], work: &mut [K], board: &mut Board) -> Result<(), AllocError>
+pub(crate) fn list_scans<K: Kind>(
+    heap: Global,
+    out: &mut Vec<u8>,
+    live: &mut Live,
+    rows: &[Vec<i32>],
+    cells: &mut [K],
+    work: &mut [K],
+    board: &mut Board,
+) -> Result<(), AllocError>
     requires { ⌜ Holds (now (now live .code)) (now live .head) ⌝ }
     ensures { λ r. ⌜ Appended (vec-items (now (out .entry))) (listing ops (now (now (live .entry) .code)) (length (now (work .entry))) 1 (map (λ row. «row-pins» (now (now (live .entry) .code)) (vec-items row)) (now (rows .entry))) («at-rest» (now (now (live .entry) .code)) (now (cells .entry)) (now (board .entry)) (now (live .entry) .scans))) r (vec-items (now (out .exit))) ⌝ }
 {

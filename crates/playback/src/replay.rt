@@ -10,8 +10,9 @@ ghost use Rattle.machine.specs.Scan.{«same-word»};
 ghost use Rattle.playback.specs.Lines.{«refusal-line»};
 ghost use Rattle.playback.specs.Listing.{«printed-rows»};
 ghost use Rattle.playback.specs.Replay.{Answered, Ran, Replayed};
-use std::alloc::AllocError;
-use std::alloc::Global;
+use crate::lines::push_refusal_line;
+use crate::listing::list_scans;
+use crate::rows::read_rows;
 use hosts::tape::Tape;
 use hosts::tape::TapeHost;
 use kinds::Kind;
@@ -24,9 +25,8 @@ use machine::mounted::Mounted;
 use machine::mounted::mount;
 use numerals::ListError;
 use numerals::read_list;
-use crate::lines::push_refusal_line;
-use crate::listing::list_scans;
-use crate::rows::read_rows;
+use std::alloc::AllocError;
+use std::alloc::Global;
 
 // The most bytes that an input may have.
 pub const LIMIT: usize = 1048576;
@@ -62,7 +62,15 @@ fn play<K: Kind>(heap: Global, mounted: Mounted, rows: &[Vec<i32>]) -> Result<Ve
     let mut tape = Tape::new(&[], head.inputs);
     let mut out = Vec::new(heap);
     match mounted.start(&mut cells, &mut board, &mut tape) {
-        Ok(mut live) => list_scans(heap, &mut out, &mut live, rows, &mut cells, &mut work, &mut board)?,
+        Ok(mut live) => list_scans(
+            heap,
+            &mut out,
+            &mut live,
+            rows,
+            &mut cells,
+            &mut work,
+            &mut board,
+        )?,
         Err(_) => unreachable(),
     }
     Ok(out)
@@ -103,5 +111,9 @@ fn answer(heap: Global, input: &[u8]) -> Result<Vec<u8>, AllocError>
 pub fn replay(heap: Global, input: &[u8]) -> Result<Vec<u8>, AllocError>
     ensures { λ r. ⌜ made r (λ out. Replayed (now (input .entry)) (vec-items out)) ⌝ }
 {
-    if input.len() > LIMIT { refused(heap, 0) } else { answer(heap, input) }
+    if input.len() > LIMIT {
+        refused(heap, 0)
+    } else {
+        answer(heap, input)
+    }
 }

@@ -1,5 +1,6 @@
 // Calls that are refused.
-use std::test::*;
+use crate::codes::GUARD;
+use crate::codes::RATIO;
 use hosts::jig::Jig;
 use hosts::jig::JigHost;
 use hosts::tape::Tape;
@@ -11,8 +12,7 @@ use kinds::milli::MilliKind;
 use machine::board::Board;
 use machine::mounted::mount;
 use machine::refusal::ScanRefusal;
-use crate::codes::GUARD;
-use crate::codes::RATIO;
+use std::test::*;
 
 // How many of the codes that differ from the guard's in one word, set to `word`, are mounted.
 fn mounted_with(word: i32) -> usize {
@@ -88,7 +88,10 @@ fn short_memory() -> Result<(), Fail> {
         Err(refusal) => refusal.number(),
     };
     check_eq(told, 11)?;
-    check(live.scan(&mut cells, &mut [Long(0); 17], &mut board, &mut jig).is_ok())?;
+    check(
+        live.scan(&mut cells, &mut [Long(0); 17], &mut board, &mut jig)
+            .is_ok(),
+    )?;
     let mut none = Tape::new(&[1, 2, 3], 33);
     let told = match live.scan(&mut cells, &mut [Long(0); 17], &mut board, &mut none) {
         Ok(_) => 0,
@@ -116,7 +119,11 @@ fn zero_divisor() -> Result<(), Fail> {
         _ => return Err(Fail::new("no divisor refusal")),
     }
     check(cells[0].0 == 0 && board.rows[0].clock == 0)?;
-    check_eq(live.scan(&mut cells, &mut work, &mut board, &mut tape).unwrap_or(0), 7)?;
+    check_eq(
+        live.scan(&mut cells, &mut work, &mut board, &mut tape)
+            .unwrap_or(0),
+        7,
+    )?;
     check(cells[0].0 == 2 && board.rows[0].clock == 1)?;
     check_eq(live.halt(), 1)
 }

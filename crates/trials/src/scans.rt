@@ -1,5 +1,5 @@
 // Runs that are accepted.
-use std::test::*;
+use crate::codes::GUARD;
 use hosts::Host;
 use hosts::jig::Jig;
 use hosts::jig::JigHost;
@@ -10,7 +10,7 @@ use kinds::long::LongKind;
 use machine::board::Board;
 use machine::mounted::mount;
 use machine::refusal::ScanRefusal;
-use crate::codes::GUARD;
+use std::test::*;
 
 // The steps of an accepted scan, or 1000 and the number of the refusal.
 fn told<F: Drop>(answer: Result<u32, ScanRefusal<F>>) -> u32 {
@@ -33,9 +33,18 @@ fn guard_on_a_tape() -> Result<(), Fail> {
     let Ok(mut live) = mounted.start(&mut cells, &mut board, &mut tape) else {
         return Err(Fail::new("start"));
     };
-    check_eq(told(live.scan(&mut cells, &mut work, &mut board, &mut tape)), 3)?;
-    check_eq(told(live.scan(&mut cells, &mut work, &mut board, &mut tape)), 14)?;
-    check_eq(told(live.scan(&mut cells, &mut work, &mut board, &mut tape)), 1012)?;
+    check_eq(
+        told(live.scan(&mut cells, &mut work, &mut board, &mut tape)),
+        3,
+    )?;
+    check_eq(
+        told(live.scan(&mut cells, &mut work, &mut board, &mut tape)),
+        14,
+    )?;
+    check_eq(
+        told(live.scan(&mut cells, &mut work, &mut board, &mut tape)),
+        1012,
+    )?;
     check(cells[0].0 == 1 && cells[1].0 == 7)?;
     check(board.levels[0] == 1 && board.rows[1].state == 0 && board.rows[2].clock == 0)?;
     check_eq(live.halt(), 2)
@@ -55,6 +64,10 @@ fn guard_on_a_jig() -> Result<(), Fail> {
     let Ok(mut live) = mounted.start(&mut cells, &mut board, &mut jig) else {
         return Err(Fail::new("start"));
     };
-    check_eq(live.scan(&mut cells, &mut work, &mut board, &mut jig).unwrap_or(0), 3)?;
+    check_eq(
+        live.scan(&mut cells, &mut work, &mut board, &mut jig)
+            .unwrap_or(0),
+        3,
+    )?;
     check_eq(live.halt(), 1)
 }

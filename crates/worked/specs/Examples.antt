@@ -92,8 +92,8 @@ examples =
       code = guard;
       levels = (pos 0 ∷ []) ∷ (pos 1 ∷ []) ∷ (pos 1 ∷ []) ∷ (pos 1 ∷ []) ∷ (pos 0 ∷ []) ∷ [];
       wanted =
-        went 3 0 1 255 1 (pos 0) (pos 0) ∷ went 14 1 1 0 1 (pos 1) (pos 1) ∷ went 13 1 2 0 2 (pos 2) (pos 1)
-        ∷ went 14 1 3 254 1 (pos 3) (pos 1) ∷ went 8 0 1 255 1 (pos 3) (pos 0) ∷ [];
+          went 3 0 1 255 1 (pos 0) (pos 0) ∷ went 14 1 1 0 1 (pos 1) (pos 1) ∷ went 13 1 2 0 2 (pos 2) (pos 1)
+          ∷ went 14 1 3 254 1 (pos 3) (pos 1) ∷ went 8 0 1 255 1 (pos 3) (pos 0) ∷ [];
     }
     ∷ record { code = single 4 (pos 1 ∷ pos 1 ∷ pos 1 ∷ pos 0 ∷ pos 10 ∷ pos 0 ∷ pos 0 ∷ pos 0 ∷ []); levels = (pos 0 ∷ []) ∷ []; wanted = failed 13 ∷ [] }
     ∷ record { code = single 3 (pos 1 ∷ pos 0 ∷ pos 10 ∷ pos 0 ∷ pos 0 ∷ pos 0 ∷ []); levels = (pos 0 ∷ []) ∷ []; wanted = failed 14 ∷ [] }

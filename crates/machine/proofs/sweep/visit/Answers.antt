@@ -16,12 +16,13 @@ run-requires g c κs =
 pub returns : need.returns
 returns g c =
     let l : c .state-s .result < states (c .args .code .now) (c .args .q) = search needs in
-    record
-    { result =
-      visit-runs (g .K·Kind .ops) (c .args .seen .now) (c .args .code .now) (c .args .q)
-      (meaning (g .K·Kind .ops) (c .args .base) (c .args .work .now) (c .args .t .now))
-      (ran (c .run .result) (meaning (g .K·Kind .ops) (c .args .base) (c .run .last .work) (c .run .last .t)))
-      (c .state-s .result) (c .count-at-entry .result) (c .body-from .result .now)
-      (c .state-s .ensures) l (c .count-at-entry .ensures) (c .body-from .ensures) (c .run .ensures .result)
-    ; shallow = c .run .ensures .shallow
-    ; few = c .run .ensures .few }
+    record {
+      result =
+          visit-runs (g .K·Kind .ops) (c .args .seen .now) (c .args .code .now) (c .args .q)
+          (meaning (g .K·Kind .ops) (c .args .base) (c .args .work .now) (c .args .t .now))
+          (ran (c .run .result) (meaning (g .K·Kind .ops) (c .args .base) (c .run .last .work) (c .run .last .t)))
+          (c .state-s .result) (c .count-at-entry .result) (c .body-from .result .now)
+          (c .state-s .ensures) l (c .count-at-entry .ensures) (c .body-from .ensures) (c .run .ensures .result);
+      shallow = c .run .ensures .shallow;
+      few = c .run .ensures .few;
+    }

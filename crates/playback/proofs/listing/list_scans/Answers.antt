@@ -24,10 +24,13 @@ returns-in-Err g c =
     (c .in-Err .refusal) (c .number .result) _ _ (c .in-Err .ensures tt .result) (c .number .ensures) (c .push-refusal-line .ensures)
 
 pub loop-row-again : need.loop-row-again
-loop-row-again g c =
-    (c .in-Ok .ensures tt .code ∙ c .loop-row .inv .0, c .in-Ok .ensures tt .head ∙ c .loop-row .inv .1, omega arith,
-    listed-more vec-items (c .args .rows .now) (c .loop-row .row-index) (c .row-item .result) (c .loop-row .inv .3) (c .loop-row-test .taken) (c .row-item .is) _ (c .deref .ensures .value) _ _ (c .loop-row .inv .0) (c .loop-row .kept .work) _ _ _
-    (c .in-Ok .steps) (c .head-head .result) _ (c .in-Ok .ensures tt .result) (c .head-head .ensures ∙ c .pre .head-is) (c .in-Continue-push-scan-line .ensures tt))
+loop-row-again g c = (
+  c .in-Ok .ensures tt .code ∙ c .loop-row .inv .0,
+  c .in-Ok .ensures tt .head ∙ c .loop-row .inv .1,
+  omega arith,
+  listed-more vec-items (c .args .rows .now) (c .loop-row .row-index) (c .row-item .result) (c .loop-row .inv .3) (c .loop-row-test .taken) (c .row-item .is) _ (c .deref .ensures .value) _ _ (c .loop-row .inv .0) (c .loop-row .kept .work) _ _ _
+      (c .in-Ok .steps) (c .head-head .result) _ (c .in-Ok .ensures tt .result) (c .head-head .ensures ∙ c .pre .head-is) (c .in-Continue-push-scan-line .ensures tt),
+)
 
 pub returns : need.returns
 returns g c = listed-all (c .loop-row .inv .3) (ap (map _) (drop-all _ _ (c .loop-row-test .left)))

@@ -15,9 +15,10 @@ use Rattle.machine.proofs.board.Board.settle.Needs.{in-Some, in-None}
 
 pub loop-i-again : need.loop-i-again
 loop-i-again c =
-    elim (c .match-puts-i .came) 
-    [ in-Some w ↦ let e = settled-more (c .loop-i .i) (c .args .puts .now) (c .args .self .now .levels) (Some (w .in-Some .v)) (omega arith) (w .in-Some .is) in search needs
-    | in-None w ↦ let e = settled-more (c .loop-i .i) (c .args .puts .now) (c .args .self .now .levels) None (omega arith) (w .in-None .is) in search needs ]
+    elim (c .match-puts-i .came) [
+      | in-Some w ↦ let e = settled-more (c .loop-i .i) (c .args .puts .now) (c .args .self .now .levels) (Some (w .in-Some .v)) (omega arith) (w .in-Some .is) in search needs
+      | in-None w ↦ let e = settled-more (c .loop-i .i) (c .args .puts .now) (c .args .self .now .levels) None (omega arith) (w .in-None .is) in search needs
+    ]
 
 pub returns : need.returns
 returns c =

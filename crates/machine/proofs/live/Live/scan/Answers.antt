@@ -31,9 +31,9 @@ returns g c =
     let outs : word code 4 ≤ length (g .H·Host .means .held host) = search needs in
     record {
       result =
-        c .proceed .ensures .result
-        ∙ ended-host k code levels (g .H·Host .means .latch host) levels (g .H·Host .means .held host) (g .H·Host .means .held (c .sample .last .host)) (c .args .cells .now) (c .args .board .now) (c .args .self .now .scans) (sampled .1)
-        ∙ scan-goes k code w (length (c .args .work .now)) (g .H·Host .means .pins host) levels e room cells ins outs (sampled .0);
+          c .proceed .ensures .result
+          ∙ ended-host k code levels (g .H·Host .means .latch host) levels (g .H·Host .means .held host) (g .H·Host .means .held (c .sample .last .host)) (c .args .cells .now) (c .args .board .now) (c .args .self .now .scans) (sampled .1)
+          ∙ scan-goes k code w (length (c .args .work .now)) (g .H·Host .means .pins host) levels e room cells ins outs (sampled .0);
       untouched = c .proceed .ensures .untouched _ _;
       code = c .proceed .ensures .code;
       head = c .proceed .ensures .head;
