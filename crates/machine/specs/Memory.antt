@@ -5,7 +5,6 @@ use Prim.Native.Nat.{ℕ, zero, suc, _+_, _-_, _*_, _<_, _≤_}
 use lib.IntN.{ℤ}
 use lib.ListN.{getD, take, drop, length}
 use Rattle.std.specs.declared.option.Option.{Option}
-use Rattle.std.specs.declared.option.Option.the-variants.{Some, None}
 use Rattle.std.specs.declared.result.Result.{Result}
 use Rattle.std.specs.declared.result.Result.the-variants.{Ok, Err}
 use Rattle.kinds.specs.Ops.{Ops}
@@ -49,10 +48,15 @@ outcome (Ok (Skip n)) m = skip n m
 outcome (Err Divisor) m = no-quotient
 outcome (Err Stack) m = no-room
 
--- A machine before its top was taken, by the value taken and the machine that is left.
-abbrev pub restored : {V : Type 0} → Option V → Machine V → Machine V
-restored None m = with-stack [] m
-restored (Some v) m = with-stack (v ∷ m .stack) m
+-- A machine before its top was taken, by the answer and the machine that is left: the value taken, or that the stack was empty.
+abbrev pub restored : {V : Type 0} → Result V Fault → Machine V → Machine V
+restored (Ok v) m = with-stack (v ∷ m .stack) m
+restored (Err e) m = with-stack [] m
+
+-- A pop is given up for the stack alone.
+abbrev pub for-stack : {V : Type 0} → Result V Fault → Type 0
+for-stack (Ok v) = Unit {0}
+for-stack (Err e) = e ≡ Stack
 
 -- What an answer of a body and of all processes stands for.
 abbrev pub ran : {V : Type 0} → Result ℕ Fault → Machine V → Ran V

@@ -4,7 +4,7 @@ ghost use mathlib.Core.List.{List, [], _∷_};
 ghost use Prim.Native.Nat.{ℕ, _+_, _<_, _≤_};
 ghost use lib.ListN.{length, take, getD, set};
 ghost use Rattle.machine.specs.Machine.{push as pushed, value as given, converted, combined, controlled, step as stepped, passive};
-ghost use Rattle.machine.specs.Memory.{meaning, outcome, restored, InRange, SourceInRange, ControlInRange};
+ghost use Rattle.machine.specs.Memory.{meaning, outcome, restored, «for-stack», InRange, SourceInRange, ControlInRange};
 use crate::board::Board;
 use flat::instr::Binary;
 use flat::instr::Control;
@@ -52,16 +52,17 @@ fn push<K: Kind>(work: &mut [K], base: usize, t: &mut Running, v: K) -> Result<F
 }
 
 // Takes the top of the stack, where there is one.
-fn pop<K: Kind>(work: &[K], base: usize, t: &mut Running) -> Option<K>
+fn pop<K: Kind>(work: &[K], base: usize, t: &mut Running) -> Result<K, Fault>
     requires { ⌜ base + 16 ≤ length (now work) ⌝ ∗ ⌜ now t .depth ≤ 16 ⌝ }
     ensures { λ r. ⌜ restored r (meaning ops base (now (work .entry)) (now (t .exit))) ≡ meaning ops base (now (work .entry)) (now (t .entry)) ⌝ }
+    ensures { λ r. ⌜ «for-stack» r ⌝ }
     ensures { λ r. ⌜ now (t .exit) .depth ≤ 16 ⌝ }
 {
     if t.depth == 0 {
-        return None;
+        return Err(Fault::Stack);
     }
     t.depth -= 1;
-    Some(work[base + t.depth])
+    Ok(work[base + t.depth])
 }
 
 // Whether a process in state `s` is stopped or failed.
@@ -146,18 +147,12 @@ pub(crate) fn step<K: Kind>(
             push(work, base, t, v)
         }
         Instr::Convert(u) => {
-            let Some(a) = pop(work, base, t) else {
-                return Err(Fault::Stack);
-            };
+            let a = pop(work, base, t)?;
             push(work, base, t, convert(u, a))
         }
         Instr::Combine(o) => {
-            let Some(b) = pop(work, base, t) else {
-                return Err(Fault::Stack);
-            };
-            let Some(a) = pop(work, base, t) else {
-                return Err(Fault::Stack);
-            };
+            let b = pop(work, base, t)?;
+            let a = pop(work, base, t)?;
             let Ok(v) = combine(o, a, b) else {
                 return Err(Fault::Divisor);
             };
@@ -165,26 +160,17 @@ pub(crate) fn step<K: Kind>(
         }
         Instr::Jump(x) => Ok(Flow::Skip(x - (i + 1))),
         Instr::Unless(x) => {
-            let Some(a) = pop(work, base, t) else {
-                return Err(Fault::Stack);
-            };
-            if a.is_true() {
-                Ok(Flow::Skip(0))
-            } else {
-                Ok(Flow::Skip(x - (i + 1)))
-            }
+            let a = pop(work, base, t)?;
+            let skipped = if a.is_true() { 0 } else { x - (i + 1) };
+            Ok(Flow::Skip(skipped))
         }
         Instr::Keep(x) => {
-            let Some(a) = pop(work, base, t) else {
-                return Err(Fault::Stack);
-            };
+            let a = pop(work, base, t)?;
             work[x] = a;
             Ok(Flow::Skip(0))
         }
         Instr::Drive(x) => {
-            let Some(a) = pop(work, base, t) else {
-                return Err(Fault::Stack);
-            };
+            let a = pop(work, base, t)?;
             t.puts[x] = Some(a.write());
             Ok(Flow::Skip(0))
         }

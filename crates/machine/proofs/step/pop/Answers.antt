@@ -5,4 +5,4 @@ use Rattle.machine.proofs.Stacks.{meaning-pop}
 use Rattle.machine.proofs.step.pop.Needs as need
 
 pub returns : need.returns
-returns g c = (meaning-pop (g .K·Kind .ops) (c .args .base) (c .args .work .now) (c .args .t .now) (c .index-work-base .result) (omega arith) (search (needs, getD-read)), omega arith)
+returns g c = (meaning-pop (g .K·Kind .ops) (c .args .base) (c .args .work .now) (c .args .t .now) (c .index-work-base .result) (omega arith) (search (needs, getD-read)), tt, omega arith)
