@@ -79,8 +79,8 @@ def turned(text, names, kind):
     for code, t in parts(text, "--" if kind == "antt" else "//"):
         quoted = t[:1] == "«"
         plain = t[1:-1] if quoted else t
-        # In a source file a name with a dash stands between marks; elsewhere a dash is a minus sign.
-        if code and plain in names and (quoted or kind != "rt" or "-" not in plain):
+        # The formatter writes a minus sign between spaces, so a word with a dash is a name, in a source file too.
+        if code and plain in names:
             out.append(names[plain])
         elif quoted and kind == "rt" and plain not in KEYWORDS:
             out.append(plain.replace("-", "_"))

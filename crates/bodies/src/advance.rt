@@ -32,7 +32,7 @@ pub fn advance<K: Kind>(
     requires code { Runnable code.now }
     requires cells { word code.now 2 ≤ length cells.old }
     requires room { word code.now 2 + 16 ≤ length work.old }
-    ensures result { advances result cells.new board.new ≡ advanced ops seen.now code.now cells.old board.old }
+    ensures result { advances result cells.new board.new ≡ advanced K.ops seen.now code.now cells.old board.old }
 {
     let n = count_at(code, 2);
     copy_front(work, cells, n);

@@ -23,7 +23,7 @@ pub(crate) fn run<K: Kind>(
     requires process { p < 32 }
     requires size { first * 2 + length words.now ≤ 8192 }
     requires sound { Sound base first words.now }
-    ensures result { ran result (meaning ops base work.new t.new) ≡ runs ops seen.now p first words.now 0 0 (meaning ops base work.old t.old) }
+    ensures result { ran result (meaning K.ops base work.new t.new) ≡ runs K.ops seen.now p first words.now 0 0 (meaning K.ops base work.old t.old) }
     ensures shallow { t.new.depth ≤ 16 }
     ensures few { IfOk result (λ n. n ≤ 4096) }
 {

@@ -26,7 +26,7 @@ pub(crate) struct Running {
 // Pushes a value where there is room. The stack stands in `work` from `base` on.
 fn push<K: Kind>(work: &mut [K], base: usize, t: &mut Running, v: K) -> Result<Flow, Fault>
     requires { (base + 16 ≤ length work.old) × (t.old.depth ≤ 16) }
-    ensures t_after { outcome result (meaning ops base work.new t.new) ≡ pushed v (meaning ops base work.old t.old) }
+    ensures t_after { outcome result (meaning K.ops base work.new t.new) ≡ pushed v (meaning K.ops base work.old t.old) }
     ensures depth_bound { t.new.depth ≤ 16 }
 {
     if t.depth >= 16 {
@@ -40,7 +40,7 @@ fn push<K: Kind>(work: &mut [K], base: usize, t: &mut Running, v: K) -> Result<F
 // Takes the top of the stack, where there is one.
 fn pop<K: Kind>(work: &[K], base: usize, t: &mut Running) -> Result<K, Fault>
     requires { (base + 16 ≤ length work.now) × (t.old.depth ≤ 16) }
-    ensures t_after { restored result (meaning ops base work.now t.new) ≡ meaning ops base work.now t.old }
+    ensures t_after { restored result (meaning K.ops base work.now t.new) ≡ meaning K.ops base work.now t.old }
     ensures for_stack { for_stack result }
     ensures depth_bound { t.new.depth ≤ 16 }
 {
@@ -61,7 +61,7 @@ fn is_passive(s: u8) -> bool
 // The value that an instruction of process `p` pushes.
 fn value<K: Kind>(cells: &[K], board: &Board, seen: &[i32; 32], p: usize, s: Source) -> K
     requires { (p < 32) × (SourceInRange (length cells.now) s) }
-    ensures { result ≡ given ops seen.now p s cells.now board.now }
+    ensures { result ≡ given K.ops seen.now p s cells.now board.now }
 {
     match s {
         Source::Lit(x) => K::read(x),
@@ -78,7 +78,7 @@ fn value<K: Kind>(cells: &[K], board: &Board, seen: &[i32; 32], p: usize, s: Sou
 }
 
 fn convert<K: Kind>(u: Unary, a: K) -> K
-    ensures { result ≡ converted ops u a }
+    ensures { result ≡ converted K.ops u a }
 {
     match u {
         Unary::Not => truth_value(!a.is_true()),
@@ -87,7 +87,7 @@ fn convert<K: Kind>(u: Unary, a: K) -> K
 }
 
 fn combine<K: Kind>(o: Binary, a: K, b: K) -> Result<K, NoQuotient>
-    ensures { result ≡ combined ops o a b }
+    ensures { result ≡ combined K.ops o a b }
 {
     match o {
         Binary::Add => Ok(a.add(b)),
@@ -123,7 +123,7 @@ pub(crate) fn step<K: Kind>(
     instr: Instr,
 ) -> Result<Flow, Fault>
     requires { (base + 16 ≤ length work.old) × ((t.old.depth ≤ 16) × ((p < 32) × (InRange base i instr))) }
-    ensures t_after { outcome result (meaning ops base work.new t.new) ≡ stepped ops seen.now p i instr (meaning ops base work.old t.old) }
+    ensures t_after { outcome result (meaning K.ops base work.new t.new) ≡ stepped K.ops seen.now p i instr (meaning K.ops base work.old t.old) }
     ensures depth_bound { t.new.depth ≤ 16 }
 {
     match instr {

@@ -32,7 +32,7 @@ fn visit<K: Kind>(
     requires place { base ≡ word code.now 2 }
     requires room { base + 16 ≤ length work.old }
     requires shallow { t.old.depth ≤ 16 }
-    ensures result { ran result (meaning ops base work.new t.new) ≡ visited ops seen.now code.now q (meaning ops base work.old t.old) }
+    ensures result { ran result (meaning K.ops base work.new t.new) ≡ visited K.ops seen.now code.now q (meaning K.ops base work.old t.old) }
     ensures shallow { t.new.depth ≤ 16 }
     ensures few { IfOk result (λ n. n ≤ 4096) }
 {
@@ -57,7 +57,7 @@ pub(crate) fn sweep<K: Kind>(
     requires place { base ≡ word code.now 2 }
     requires room { base + 16 ≤ length work.old }
     requires shallow { t.old.depth ≤ 16 }
-    ensures result { sweeps result (meaning ops base work.new t.new) ≡ swept ops seen.now code.now (word code.now 5) 0 0 (meaning ops base work.old t.old) }
+    ensures result { sweeps result (meaning K.ops base work.new t.new) ≡ swept K.ops seen.now code.now (word code.now 5) 0 0 (meaning K.ops base work.old t.old) }
 {
     let mut steps = 0;
     for q in 0..count_at(code, 5) {

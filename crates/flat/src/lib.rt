@@ -1,4 +1,6 @@
 // Flat code: words, instructions, and the layout.
+#![tactic(auto)]
+
 pub mod head;
 pub mod instr;
 pub mod layout;

@@ -6,7 +6,7 @@ use crate::Host;
 
 // The latched levels of the lines 0 to 31, with 0 beyond the last line.
 pub fn sense<H: Host>(host: &H) -> [i32; 32]
-    ensures { result ≡ sensed (means.latch host.now) }
+    ensures { result ≡ sensed (H.means.latch host.now) }
 {
     let mut seen = [0; 32];
     for line in 0..32 {
@@ -17,8 +17,8 @@ pub fn sense<H: Host>(host: &H) -> [i32; 32]
 
 // Puts each line that has a value to it, in number order. The other lines keep what they hold.
 pub fn put_all<H: Host>(host: &mut H, puts: &[Option<i32>; 32])
-    ensures held { means.held host.new ≡ settled puts.now (means.held host.old) }
-    ensures latch { means.latch host.new ≡ means.latch host.old }
+    ensures held { H.means.held host.new ≡ settled puts.now (H.means.held host.old) }
+    ensures latch { H.means.latch host.new ≡ H.means.latch host.old }
 {
     for i in 0..32 {
         match puts[i] {
@@ -30,8 +30,8 @@ pub fn put_all<H: Host>(host: &mut H, puts: &[Option<i32>; 32])
 
 // Puts the first `n` output lines to 0, or all where there are fewer.
 pub fn clear_lines<H: Host>(host: &mut H, n: usize)
-    ensures held { means.held host.new ≡ cleared n (means.held host.old) }
-    ensures latch { means.latch host.new ≡ means.latch host.old }
+    ensures held { H.means.held host.new ≡ cleared n (H.means.held host.old) }
+    ensures latch { H.means.latch host.new ≡ H.means.latch host.old }
 {
     for i in 0..n {
         host.put(i, 0);

@@ -1,4 +1,6 @@
 // Hosts: what a run samples its inputs from and drives its outputs through.
+#![tactic(auto)]
+
 pub mod jig;
 pub mod levels;
 mod lines;

@@ -1,4 +1,6 @@
 // The kinds of cell: what a cell holds, and how it calculates.
+#![tactic(auto)]
+
 pub mod long;
 pub mod milli;
 pub mod rounding;
@@ -78,7 +80,7 @@ pub trait Kind: Copy {
 
 // A truth as the kind's one or zero.
 pub fn truth_value<K: Kind>(b: bool) -> K
-    ensures { result ≡ flag ops b }
+    ensures { result ≡ flag K.ops b }
 {
     if b { K::one() } else { K::zero() }
 }

@@ -1,7 +1,7 @@
 // Products and quotients in 64 bits, and their way back to 32.
 ghost use Rattle.std.specs.Prelude.{◌≡◌, ◌-◌, ◌^◌, ◌<◌, ◌≤◌, ◌*ℤ◌, unsigned_abs};
 ghost use Rattle.std.specs.Int.{saturate_to_bits};
-ghost use Rattle.kinds.specs.Rounding.{nearest, nearest-size, Nearest-law};
+ghost use Rattle.kinds.specs.Rounding.{nearest, nearest_size, NearestLaw};
 
 // The product of two numbers of 32 bits, which fits 64.
 pub(crate) fn product(a: i32, b: i32) -> i64
@@ -23,7 +23,7 @@ pub(crate) fn nearest(n: i64, d: i64) -> i64
 // The same for sizes: an exact half goes up.
 fn nearest_size(n: u64, d: u64) -> u64
     requires { (0 < d) × ((n < 2 ^ 63) × (d < 2 ^ 63)) }
-    ensures { result ≡ nearest-size n d }
+    ensures { result ≡ nearest_size n d }
 {
     let whole = n / d;
     if d <= 2 * (n % d) { whole + 1 } else { whole }
@@ -38,7 +38,7 @@ pub(crate) fn stop(x: i64) -> i32
 
 // States the law of the rounding, and returns 0.
 pub fn nearest_is_near() -> u8
-    ensures law { Nearest-law }
+    ensures law { NearestLaw }
     ensures answer { result ≡ 0 }
 {
     0

@@ -1,4 +1,5 @@
 // The lines that are printed of a run.
+#![tactic(auto)]
 ghost use Rattle.std.specs.Prelude.{◌≡◌, ◌∷◌, map, take, IfOk, decimal};
 ghost use Rattle.std.specs.List.{flat_map};
 ghost use Rattle.numerals.specs.Print.{Appended, bracketed};
@@ -71,7 +72,7 @@ fn push_tail(
 
 // The cells written back as raw numbers.
 fn written<K: Kind>(heap: Global, cells: &[K]) -> Result<Vec<i32>, AllocError>
-    ensures { IfOk result (λ v. v.items ≡ map ops.writing cells.now) }
+    ensures { IfOk result (λ v. v.items ≡ map K.ops.writing cells.now) }
 {
     let mut raw = Vec::new(heap);
     for cell in cells {
@@ -97,7 +98,7 @@ pub fn push_scan_line<K: Kind>(
     board: &Board,
     steps: u32,
 ) -> Result<(), AllocError>
-    ensures { Appended out.old.items (scan_line ops head.now n cells.now board.now steps) result out.new.items }
+    ensures { Appended out.old.items (scan_line K.ops head.now n cells.now board.now steps) result out.new.items }
 {
     let raw = written(heap, front(cells, head.cells))?;
     push_bytes(out, b"(")?;

@@ -1,4 +1,6 @@
 // One line of numbers, read from bytes.
+#![tactic(auto)]
+
 ghost use Rattle.std.specs.Prelude.{◌≡◌, ◌≤◌, true, ◌∷◌, is_err, decimal, FitsSigned};
 ghost use Rattle.std.specs.Int.{w32};
 ghost use Rattle.numerals.specs.Print.{Kept};

@@ -26,14 +26,14 @@ pub struct Live<'a> {
 
 // Whether a code's first word is the number of the kind.
 pub(crate) fn is_kind<K: Kind>(word: i32) -> bool
-    ensures { result ≡ same_word word ops.number }
+    ensures { result ≡ same_word word K.ops.number }
 {
     word == K::code_word()
 }
 
 // Samples the host, and passes its fault up whole.
 fn sample<H: Host>(host: &mut H) -> Result<(), ScanRefusal<H::Fault>>
-    ensures { Latches means host.old result host.new }
+    ensures { Latches H.means host.old result host.new }
 {
     match host.sample() {
         Ok(_) => Ok(()),
@@ -83,7 +83,7 @@ impl<'a> Live<'a> {
         host: &mut H,
     ) -> Result<u32, ScanRefusal<H::Fault>>
         requires mounted { Holds self.old.code.now self.old.head }
-        ensures result { Scans ops means self.old.code.now (length work.old) (record { cells = cells.entry.now; board = board.old; scans = self.old.scans; host = host.old }) result (record { cells = cells.exit.now; board = board.new; scans = self.new.scans; host = host.new }) }
+        ensures result { Scans K.ops H.means self.old.code.now (length work.old) (record { cells = cells.entry.now; board = board.old; scans = self.old.scans; host = host.old }) result (record { cells = cells.exit.now; board = board.new; scans = self.new.scans; host = host.new }) }
         ensures untouched { Untouched result host.old host.new }
         ensures code { self.new.code.now ≡ self.old.code.now }
         ensures head { self.new.head ≡ self.old.head }
@@ -113,7 +113,7 @@ impl<'a> Live<'a> {
         requires code { Runnable self.old.code.now }
         requires cells { word self.old.code.now 2 ≤ length cells.old }
         requires room { word self.old.code.now 2 + 16 ≤ length work.old }
-        ensures result { (record { told = told result; world = record { cells = cells.exit.now; board = board.new; scans = self.new.scans; latch = means.latch host.new; held = means.held host.new } }) ≡ ended self.old.code.now (means.latch host.old) (record { cells = cells.entry.now; board = board.old; scans = self.old.scans; latch = means.latch host.old; held = means.held host.old }) (swept_on ops self.old.code.now (means.latch host.old) (record { cells = cells.entry.now; board = board.old; scans = self.old.scans; latch = means.latch host.old; held = means.held host.old })) }
+        ensures result { (record { told = told result; world = record { cells = cells.exit.now; board = board.new; scans = self.new.scans; latch = H.means.latch host.new; held = H.means.held host.new } }) ≡ ended self.old.code.now (H.means.latch host.old) (record { cells = cells.entry.now; board = board.old; scans = self.old.scans; latch = H.means.latch host.old; held = H.means.held host.old }) (swept_on K.ops self.old.code.now (H.means.latch host.old) (record { cells = cells.entry.now; board = board.old; scans = self.old.scans; latch = H.means.latch host.old; held = H.means.held host.old })) }
         ensures untouched { (h h₁ : H) → Untouched result h h₁ }
         ensures code { self.new.code.now ≡ self.old.code.now }
         ensures head { self.new.head ≡ self.old.head }

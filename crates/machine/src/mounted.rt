@@ -31,7 +31,7 @@ pub fn mount(code: &[i32]) -> Result<Mounted<'_>, MountRefusal>
 // Sets the first `n` cells to zero.
 fn clear_cells<K: Kind>(cells: &mut [K], n: usize)
     requires { n ≤ length cells.old }
-    ensures { cells.new ≡ replicate n ops.zero ++ drop n cells.old }
+    ensures { cells.new ≡ replicate n K.ops.zero ++ drop n cells.old }
 {
     for i in 0..n {
         cells[i] = K::zero();
@@ -53,7 +53,7 @@ impl<'a> Mounted<'a> {
         board: &mut Board,
         host: &mut H,
     ) -> Result<Live<'a>, StartRefusal>
-        ensures { Starts ops means self.entry (record { cells = cells.entry.now; board = board.old; scans = 0; host = host.old }) result (record { cells = cells.exit.now; board = board.new; scans = 0; host = host.new }) }
+        ensures { Starts K.ops H.means self.entry (record { cells = cells.entry.now; board = board.old; scans = 0; host = host.old }) result (record { cells = cells.exit.now; board = board.new; scans = 0; host = host.new }) }
     {
         if !is_kind::<K>(self.head.kind) {
             return Err(StartRefusal::OtherKind);

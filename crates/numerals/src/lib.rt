@@ -1,4 +1,6 @@
 // Decimal numbers and lists of them, appended to bytes.
+#![tactic(auto)]
+
 ghost use Rattle.numerals.specs.Print.{Appended, BaseTen, bracketed, items, spaced};
 ghost use Rattle.std.specs.Prelude.{decimal};
 ghost use Rattle.std.specs.Fmt.{signed_decimal};

@@ -22,7 +22,7 @@ fn scan_row<K: Kind>(
     board: &mut Board,
 ) -> Result<u32, ScanRefusal<Spent>>
     requires { Holds live.old.code.now live.old.head }
-    ensures result { (record { told = told result; world = at_rest live.old.code.now cells.new board.new live.new.scans }) ≡ row_scan ops live.old.code.now (length work.old) row.now (at_rest live.old.code.now cells.old board.old live.old.scans) }
+    ensures result { (record { told = told result; world = at_rest live.old.code.now cells.new board.new live.new.scans }) ≡ row_scan K.ops live.old.code.now (length work.old) row.now (at_rest live.old.code.now cells.old board.old live.old.scans) }
     ensures code { live.new.code.now ≡ live.old.code.now }
     ensures head { live.new.head ≡ live.old.head }
 {
@@ -41,7 +41,7 @@ pub(crate) fn list_scans<K: Kind>(
     board: &mut Board,
 ) -> Result<(), AllocError>
     requires { Holds live.old.code.now live.old.head }
-    ensures { Appended out.old.items (listing ops live.old.code.now (length work.old) 1 (map (λ row. row_pins live.old.code.now row.items) rows.now) (at_rest live.old.code.now cells.old board.old live.old.scans)) result out.new.items }
+    ensures { Appended out.old.items (listing K.ops live.old.code.now (length work.old) 1 (map (λ row. row_pins live.old.code.now row.items) rows.now) (at_rest live.old.code.now cells.old board.old live.old.scans)) result out.new.items }
 {
     let head = live.head();
     let mut n = 0;

@@ -32,7 +32,7 @@ fn refused(heap: Global, number: u32) -> Result<Vec<u8>, AllocError>
 
 // So many cells at zero.
 fn zeros<K: Kind>(heap: Global, n: usize) -> Result<Vec<K>, AllocError>
-    ensures { IfOk result (λ v. v.items ≡ replicate n ops.zero) }
+    ensures { IfOk result (λ v. v.items ≡ replicate n K.ops.zero) }
 {
     let mut cells = Vec::new(heap);
     cells.resize(n, K::zero())?;
@@ -42,8 +42,8 @@ fn zeros<K: Kind>(heap: Global, n: usize) -> Result<Vec<K>, AllocError>
 // The lines of a run of the mounted code, with a scan for each row.
 fn play<K: Kind>(heap: Global, mounted: Mounted, rows: &[Vec<i32>]) -> Result<Vec<u8>, AllocError>
     requires mounted { Holds mounted.code.now mounted.head }
-    requires kind { same_word mounted.head.kind ops.number ≡ true }
-    ensures { IfOk result (λ out. out.items ≡ printed_rows ops mounted.entry.code.now (map vec_items rows.now)) }
+    requires kind { same_word mounted.head.kind K.ops.number ≡ true }
+    ensures { IfOk result (λ out. out.items ≡ printed_rows K.ops mounted.entry.code.now (map vec_items rows.now)) }
 {
     let head = mounted.head();
     let mut cells = zeros::<K>(heap, head.cells)?;

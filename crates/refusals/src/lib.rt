@@ -1,4 +1,6 @@
 // Why a call of a run is refused.
+#![tactic(auto)]
+
 ghost use Rattle.std.specs.Prelude.{◌≡◌};
 ghost use Rattle.refusals.specs.Numbers.{mount_number, start_number, scan_number, refusal_of};
 

@@ -1,6 +1,6 @@
 // The rows of a sheet, filled item by item.
 ghost use Rattle.std.specs.Prelude.{◌≡◌, ◌+◌, ◌<◌, ◌≤◌, [], ◌∷◌, ◌++◌, length, take};
-ghost use Rattle.text.specs.Filling.{most-items, weight, Puts};
+ghost use Rattle.text.specs.Filling.{most_items, weight, Puts};
 
 use crate::reader::Item;
 use crate::row::Row;
@@ -28,7 +28,7 @@ impl Filler {
 
     // A row more, where the sheet has room.
     fn add_row<'a>(&mut self, rows: &mut [Row<'a>], row: Row<'a>)
-        requires { self.old.used < most-items }
+        requires { self.old.used < most_items }
         ensures used { self.new.used ≡ self.old.used + 1 }
         ensures rest { (self.new.top ≡ self.old.top) × (self.new.count ≡ self.old.count) }
         ensures row { self.old.used < length rows.old → take (self.old.used + 1) rows.new ≡ take self.old.used rows.old ++ row.entry ∷ [] }
@@ -56,9 +56,9 @@ impl Filler {
 
     // One item more.
     pub(crate) fn put<'a>(&mut self, rows: &mut [Row<'a>], item: Item<'a>)
-        requires { self.old.used < most-items }
+        requires { self.old.used < most_items }
         ensures used { self.new.used ≡ self.old.used + weight item.entry }
-        ensures puts { self.new.used ≤ length rows.old → self.old.count < most-items → Puts item.entry (take self.old.used rows.old) self.old (take self.new.used rows.new) self.new }
+        ensures puts { self.new.used ≤ length rows.old → self.old.count < most_items → Puts item.entry (take self.old.used rows.old) self.old (take self.new.used rows.new) self.new }
     {
         match item {
             Item::Open => {

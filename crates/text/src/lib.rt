@@ -1,4 +1,6 @@
 // A text of forms, one to a line, read from bytes onto a sheet of rows.
+#![tactic(auto)]
+
 mod class;
 mod filler;
 pub mod law;

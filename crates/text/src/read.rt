@@ -1,7 +1,7 @@
 // A text read onto a sheet.
 ghost use Rattle.std.specs.Prelude.{◌≡◌, ◌≤◌, length};
-ghost use Rattle.text.specs.Reading.{read-text};
-ghost use Rattle.text.specs.Page.{page-of, laid_out, Holds};
+ghost use Rattle.text.specs.Reading.{read_text};
+ghost use Rattle.text.specs.Page.{page_of, laid_out, Holds};
 
 use crate::filler::Filler;
 use crate::reader::{Reader, TEXT_MAX};
@@ -25,8 +25,8 @@ pub enum ReadRefusal {
 // Lays a text's items out on the sheet, row by row.
 fn lay<'a>(text: &'a [u8], sheet: &mut [Row<'a>]) -> Result<Page, ReadRefusal>
     requires { length text.now ≤ 32768 }
-    ensures answer { result ≡ laid_out (read-text text.now) (length sheet.old) }
-    ensures holds { Holds (read-text text.now) result sheet.new }
+    ensures answer { result ≡ laid_out (read_text text.now) (length sheet.old) }
+    ensures holds { Holds (read_text text.now) result sheet.new }
 {
     let mut reader = Reader::new(text);
     let mut filler = Filler::new();
@@ -49,8 +49,8 @@ fn lay<'a>(text: &'a [u8], sheet: &mut [Row<'a>]) -> Result<Page, ReadRefusal>
 
 // Reads a text onto a sheet: how far the sheet is filled, or why the text is not read.
 pub fn read<'a>(text: &'a [u8], sheet: &mut [Row<'a>]) -> Result<Page, ReadRefusal>
-    ensures answer { result ≡ page-of text.now (length sheet.old) }
-    ensures holds { Holds (read-text text.now) result sheet.new }
+    ensures answer { result ≡ page_of text.now (length sheet.old) }
+    ensures holds { Holds (read_text text.now) result sheet.new }
 {
     if text.is_empty() || text.len() > TEXT_MAX {
         return Err(ReadRefusal::Size);

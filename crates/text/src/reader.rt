@@ -1,7 +1,7 @@
 // The reader: a machine in place that takes a text byte by byte and gives its items.
 ghost use Rattle.std.specs.Prelude.{◌≡◌, ◌<◌, ◌≤◌, length};
 ghost use Rattle.text.specs.Tokens.{toks, spot, line};
-ghost use Rattle.text.specs.Machine.{Sound, Moved, Stepped, Answered, byte, ahead, beginning, form-begins, form-ends, gap-becomes, line-ends, no-form, between-items, word-grows, word-ends, number-grows, number-ends};
+ghost use Rattle.text.specs.Machine.{Sound, Moved, Stepped, Answered, byte, ahead, beginning, form_begins, form_ends, gap_becomes, line_ends, no_form, between_items, word_grows, word_ends, number_grows, number_ends};
 
 use crate::class::{Class, class_of, is_number, may_grow};
 
@@ -93,7 +93,7 @@ impl<'a> Reader<'a> {
         requires sound { Sound self.old }
         requires more { self.old.at < length self.old.text.now }
         requires between { self.old.state ≡ State.Between }
-        ensures { Moved self.old self.new result form-begins 1 }
+        ensures { Moved self.old self.new result form_begins 1 }
     {
         self.at += 1;
         if self.depth >= NESTING_MAX {
@@ -110,7 +110,7 @@ impl<'a> Reader<'a> {
         requires more { self.old.at < length self.old.text.now }
         requires between { self.old.state ≡ State.Between }
         requires after { self.old.gap ≡ Gap.After }
-        ensures { Moved self.old self.new result form-ends 1 }
+        ensures { Moved self.old self.new result form_ends 1 }
     {
         self.at += 1;
         if self.depth > 1 {
@@ -127,7 +127,7 @@ impl<'a> Reader<'a> {
         requires sound { Sound self.old }
         requires more { self.old.at < length self.old.text.now }
         requires between { self.old.state ≡ State.Between }
-        ensures { Moved self.old self.new result (gap-becomes gap) 1 }
+        ensures { Moved self.old self.new result (gap_becomes gap) 1 }
     {
         self.at += 1;
         self.gap = gap;
@@ -139,7 +139,7 @@ impl<'a> Reader<'a> {
         requires sound { Sound self.old }
         requires more { self.old.at < length self.old.text.now }
         requires between { self.old.state ≡ State.Between }
-        ensures { Moved self.old self.new result line-ends 1 }
+        ensures { Moved self.old self.new result line_ends 1 }
     {
         self.at += 1;
         self.line += 1;
@@ -151,7 +151,7 @@ impl<'a> Reader<'a> {
     fn refuse(&mut self) -> Move<'a>
         requires sound { Sound self.old }
         requires more { self.old.at < length self.old.text.now }
-        ensures { Moved self.old self.new result no-form 1 }
+        ensures { Moved self.old self.new result no_form 1 }
     {
         self.at += 1;
         Move::Bad
@@ -162,7 +162,7 @@ impl<'a> Reader<'a> {
         requires sound { Sound self.old }
         requires more { self.old.at < length self.old.text.now }
         requires between { self.old.state ≡ State.Between }
-        ensures { Moved self.old self.new result (between-items c) 1 }
+        ensures { Moved self.old self.new result (between_items c) 1 }
     {
         match (self.gap, c) {
             (Gap::Line, Class::Open) => self.open(),
@@ -182,7 +182,7 @@ impl<'a> Reader<'a> {
         requires sound { Sound self.old }
         requires more { self.old.at < length self.old.text.now }
         requires word { self.old.state ≡ State.Word }
-        ensures { Moved self.old self.new result word-grows 1 }
+        ensures { Moved self.old self.new result word_grows 1 }
     {
         self.at += 1;
         if self.at - self.from > WORD_MAX {
@@ -195,7 +195,7 @@ impl<'a> Reader<'a> {
     // The word that ends here.
     fn end_word(&mut self) -> Move<'a>
         requires sound { Sound self.old }
-        ensures { Moved self.old self.new result word-ends 0 }
+        ensures { Moved self.old self.new result word_ends 0 }
     {
         self.state = State::Between;
         self.gap = Gap::After;
@@ -208,7 +208,7 @@ impl<'a> Reader<'a> {
         requires more { self.old.at < length self.old.text.now }
         requires number { self.old.state ≡ State.Number }
         requires byte { b ≡ byte self.old }
-        ensures { Moved self.old self.new result number-grows 1 }
+        ensures { Moved self.old self.new result number_grows 1 }
     {
         let fits = may_grow(&self.text[self.from..self.at], b);
         self.at += 1;
@@ -218,7 +218,7 @@ impl<'a> Reader<'a> {
     // The number that ends here.
     fn end_number(&mut self) -> Move<'a>
         requires sound { Sound self.old }
-        ensures { Moved self.old self.new result number-ends 0 }
+        ensures { Moved self.old self.new result number_ends 0 }
     {
         let part = &self.text[self.from..self.at];
         if !is_number(part) {

@@ -1,4 +1,5 @@
 // From a text to flat code.
+#![tactic(auto)]
 mod emit;
 mod encode;
 mod expression;

@@ -1,4 +1,5 @@
 // Tests of whole runs, through the open calls alone.
+#![tactic(auto)]
 #[cfg(test)]
 mod codes;
 #[cfg(test)]

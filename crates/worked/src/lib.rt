@@ -1,9 +1,10 @@
 // Worked examples of the definitions, computed by the prover.
-ghost use Rattle.worked.specs.Examples.{Worked-examples};
+#![tactic(auto)]
+ghost use Rattle.worked.specs.Examples.{WorkedExamples};
 
 // Each worked example comes out as it should.
 pub fn worked_examples() -> u8
-    ensures { Worked-examples }
+    ensures { WorkedExamples }
 {
     0
 }

@@ -5,4 +5,4 @@ use Rattle.lists.proofs.after.Goals as goal
 use Rattle.std.proofs.lemmas.Bool.Decides.{Decides-eqb}
 
 pub returns : goal.returns
-returns c = let h = strip_prefix_is Decides-eqb c.args.text.now c.args.front.now c.strip-prefix.result c.strip-prefix.ensures.cases in search rules
+returns c = let h = strip_prefix_is Decides-eqb c.args.text.now c.args.front.now c.strip_prefix.result c.strip_prefix.ensures.cases in search rules

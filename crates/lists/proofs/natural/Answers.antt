@@ -3,12 +3,12 @@ use Rattle.std.proofs.Common.{◌+◌, arith, rules}
 use Rattle.std.proofs.lemmas.Int.Digits.{digits_more, digits_value_more}
 use Rattle.numerals.proofs.Numbers.{base_ten_print, front_le, read_print}
 use Rattle.lists.proofs.natural.Goals as goal
-use Rattle.lists.proofs.natural.Goals.{then-is-empty-via-then-is-empty, then-is-empty-via-else-is-empty+then-padded}
+use Rattle.lists.proofs.natural.Goals.{then-is_empty-via-then-is_empty, then-is_empty-via-else-is_empty+then-padded}
 
-pub returns-then-is-empty : goal.returns-then-is-empty
-returns-then-is-empty c = λ v good e.
+pub returns-then-is_empty : goal.returns-then-is_empty
+returns-then-is_empty c = λ v good e.
     let print = base_ten_print c.args.digits.now v (omega arith) e in
-    elim c.then-is-empty.branch [ then-is-empty-via-then-is-empty w ↦ search rules | then-is-empty-via-else-is-empty+then-padded w ↦ grind (arith, print.plain) ]
+    elim c.then-is_empty.branch [ then-is_empty-via-then-is_empty w ↦ search rules | then-is_empty-via-else-is_empty+then-padded w ↦ grind (arith, print.plain) ]
 
 pub returns-then-d-lt48 : goal.returns-then-d-lt48
 returns-then-d-lt48 c = λ v good e. let digit = (base_ten_print c.args.digits.now v (omega arith) e).digits c.loop-d.d-index (omega arith) in search rules

@@ -7,30 +7,30 @@ use Rattle.lists.specs.Steps.{inside}
 use Rattle.lists.proofs.Lines.{no_ending_after, passed_kept, passed_more}
 use Rattle.lists.proofs.read_values.Goals as goal
 
-pub returns-in-default-integer : goal.returns-in-default-integer
-returns-in-default-integer c = record {
+pub returns-in_default-integer : goal.returns-in_default-integer
+returns-in_default-integer c = record {
   answer =
       c.loop-item.invariant.decides
       (no_ending_after c.loop-item.left.now c.in-Some.item.now c.in-Some.ensures
-      (λ v vs rest fit fits t b. c.in-default-integer.ensures v fit (c.split-token.ensures.token ∙ t)));
+      (λ v vs rest fit fits t b. c.in_default-integer.ensures v fit (c.split_token.ensures.token ∙ t)));
   kept = search (rules, passed_kept);
 }
 
-pub returns-in-err-push : goal.returns-in-err-push
-returns-in-err-push c =
-    let p = err_from_is_err_and c.from-residual.result c.from-residual.ensures.1 in
-    record { answer = rw (p.1, p.2) tt; kept = rw c.in-err-push.ensures.items (passed_kept _ _ _ _ c.loop-item.invariant) }
+pub returns-in_err-push : goal.returns-in_err-push
+returns-in_err-push c =
+    let p = err_from_is_err_and c.from_residual.result c.from_residual.ensures.1 in
+    record { answer = rw (p.1, p.2) tt; kept = rw c.in_err-push.ensures.items (passed_kept _ _ _ _ c.loop-item.invariant) }
 
 pub loop-item-smaller : goal.loop-item-smaller
 loop-item-smaller c =
-    omega (arith, ap length c.in-Some.ensures, ap length c.split-token.ensures.behind, length-drop (prefix_len inside c.in-Some.item.now) c.in-Some.item.now)
+    omega (arith, ap length c.in-Some.ensures, ap length c.split_token.ensures.behind, length-drop (prefix_len inside c.in-Some.item.now) c.in-Some.item.now)
 
 pub loop-item-preserved : goal.loop-item-preserved
 loop-item-preserved c =
     let value = c.in-Some-integer.ensures in
-    let pushed = simp (to_z-of_z w32 c.in-Some-integer.v value.0) at c.in-ok-push.ensures.items in
-    passed_more c.args.text.now c.loop-item.left.now c.in-Some.item.now c.split-token.result.0.now c.split-token.result.1.now (vec_items c.args.values.now) (vec_items c.loop-item.values) (vec_items c.push.new.self) c.in-Some-integer.v
-    c.loop-item.invariant c.in-Some.ensures c.split-token.ensures.token c.split-token.ensures.behind value.0 value.1 pushed
+    let pushed = simp (to_z-of_z w32 c.in-Some-integer.v value.0) at c.in_ok-push.ensures.items in
+    passed_more c.args.text.now c.loop-item.left.now c.in-Some.item.now c.split_token.result.0.now c.split_token.result.1.now (vec_items c.args.values.now) (vec_items c.loop-item.values) (vec_items c.push.new.self) c.in-Some-integer.v
+    c.loop-item.invariant c.in-Some.ensures c.split_token.ensures.token c.split_token.ensures.behind value.0 value.1 pushed
 
 pub returns : goal.returns
-returns c = let none = c.in-default.ensures in record { answer = (c.loop-item.invariant, none); kept = search (rules, passed_kept) }
+returns c = let none = c.in_default.ensures in record { answer = (c.loop-item.invariant, none); kept = search (rules, passed_kept) }

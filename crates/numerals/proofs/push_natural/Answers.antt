@@ -10,8 +10,8 @@ use Rattle.numerals.proofs.push_natural.Goals as goal
 pub loop-rest-init : goal.loop-rest-init
 loop-rest-init c = (omega arith, length-decimal-le 20 c.args.n (omega arith) (omega arith) (omega arith), omega arith, omega arith, append-nil _)
 
-pub overflow-sub-at : goal.overflow-sub-at
-overflow-sub-at c = omega (arith, decimal_nonempty c.loop-rest.rest (omega arith))
+pub overflow_sub-at : goal.overflow_sub-at
+overflow_sub-at c = omega (arith, decimal_nonempty c.loop-rest.rest (omega arith))
 
 pub loop-rest-preserved : goal.loop-rest-preserved
 loop-rest-preserved c =
@@ -21,8 +21,8 @@ loop-rest-preserved c =
     let moved = last_set n c.loop-rest.buffer c.loop-rest.at (omega arith) (omega arith) (omega arith) (omega arith) in
     (omega arith, omega arith, omega arith, simp length-set c.loop-rest.invariant.3, moved ∙ c.loop-rest.invariant.4)
 
-pub overflow-sub-at-2 : goal.overflow-sub-at-2
-overflow-sub-at-2 c = omega (arith, decimal_nonempty c.loop-rest.rest (omega arith))
+pub overflow_sub-at-2 : goal.overflow_sub-at-2
+overflow_sub-at-2 c = omega (arith, decimal_nonempty c.loop-rest.rest (omega arith))
 
 pub returns : goal.returns
 returns c =

@@ -20,10 +20,10 @@ from_table op x op' x' k n r a b e f h = h ∙ cc
 
 pub returns-then-number-lt15 : goal.returns-then-number-lt15
 returns-then-number-lt15 c =
-    from_table c.args.op c.args.operand (to_z w32 (of_z w32 c.args.op)) (to_z w32 (of_z w32 c.args.operand)) c.as-count-number.result c.as-count-n.result c.decode-low.result
-    (to_z-of_z w32 c.args.op c.ranges.op) (to_z-of_z w32 c.args.operand c.ranges.operand) c.as-count-number.ensures c.as-count-n.ensures c.decode-low.ensures
+    from_table c.args.op c.args.operand (to_z w32 (of_z w32 c.args.op)) (to_z w32 (of_z w32 c.args.operand)) c.as_count-number.result c.as_count-n.result c.decode_low.result
+    (to_z-of_z w32 c.args.op c.ranges.op) (to_z-of_z w32 c.args.operand c.ranges.operand) c.as_count-number.ensures c.as_count-n.ensures c.decode_low.ensures
 
 pub returns-else-number-lt15 : goal.returns-else-number-lt15
 returns-else-number-lt15 c =
-    from_table c.args.op c.args.operand (to_z w32 (of_z w32 c.args.op)) (to_z w32 (of_z w32 c.args.operand)) c.as-count-number.result c.as-count-n.result c.decode-high.result
-    (to_z-of_z w32 c.args.op c.ranges.op) (to_z-of_z w32 c.args.operand c.ranges.operand) c.as-count-number.ensures c.as-count-n.ensures c.decode-high.ensures
+    from_table c.args.op c.args.operand (to_z w32 (of_z w32 c.args.op)) (to_z w32 (of_z w32 c.args.operand)) c.as_count-number.result c.as_count-n.result c.decode_high.result
+    (to_z-of_z w32 c.args.op c.ranges.op) (to_z-of_z w32 c.args.operand c.ranges.operand) c.as_count-number.ensures c.as_count-n.ensures c.decode_high.ensures
