@@ -1,13 +1,12 @@
 -- The print of a list tells the list.
-use Rattle.std.proofs.Common.{◌≡◌, ℕ, suc, ◌^◌, ◌<◌, Bool, true, false, List, [], ◌∷◌, ◌++◌, get_or, ℤ, pos, negsuc, decimal, sym, refl, ap, ◌∙◌, append_assoc, arith, w32, SFits}
+use Rattle.std.proofs.Common.{◌≡◌, ℕ, suc, ◌^◌, ◌<◌, true, false, List, [], ◌∷◌, ◌++◌, ℤ, pos, negsuc, decimal, sym, refl, ap, ◌∙◌, append_assoc, arith, w32, SFits}
 use Rattle.std.specs.Str.Parse.{digits_value}
-use Rattle.std.specs.Int.{IsInRange}
 use Rattle.std.specs.Fmt.{signed_decimal}
 use Rattle.std.specs.List.{AllByRecursion as All}
 use Rattle.std.proofs.ByRecursion.{All-from_get_or}
 use Rattle.std.proofs.lemmas.List.{append_cancel_left}
 use Rattle.std.proofs.lemmas.Bool.{both_ways}
-use Rattle.numerals.specs.Print.{items, shown_list}
+use Rattle.numerals.specs.Print.{items}
 use Rattle.lists.specs.Steps.{ending, inside}
 use Rattle.numerals.proofs.Numbers.{base_ten}
 use Rattle.rows.specs.Rows.{PrintTells}

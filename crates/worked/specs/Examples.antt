@@ -1,5 +1,5 @@
 -- The worked examples, in one list.
-use Rattle.std.specs.Prelude.{◌≡◌, ℕ, ◌-◌, ◌^◌, Bool, true, false, List, [], ◌∷◌, ◌++◌, length, take, replicate, ℤ, pos, negsuc}
+use Rattle.std.specs.Prelude.{◌≡◌, ℕ, true, List, [], ◌∷◌, ◌++◌, length, take, replicate, ℤ, pos}
 use Rattle.std.specs.List.{AllByRecursion as All}
 use Rattle.kinds.specs.declared.long.Long.{Long}
 use Rattle.kinds.specs.Longs as Longs
@@ -8,7 +8,7 @@ use Rattle.flat.specs.Words.{head}
 use Rattle.flat.specs.Tests.{fits}
 use Rattle.board.specs.declared.rows.Row.{Row}
 use Rattle.board.specs.Rows.{first_board}
-use Rattle.machine.specs.Scan.{World, Told, steps, refused, refused_in, Scanned, scan}
+use Rattle.machine.specs.Scan.{World, Told, steps, refused_in, Scanned, scan}
 use Rattle.machine.specs.Start.{started}
 use Rattle.worked.specs.Guard.{guard}
 

@@ -1,5 +1,4 @@
-use Rattle.std.proofs.Common.{◌≡◌, drop, sym, ap, ◌∙◌, arith, rules}
-use Rattle.bodies.specs.Memory.{meaning}
+use Rattle.std.proofs.Common.{drop, ◌∙◌, rules}
 use Rattle.bodies.proofs.Advances.{begun_is, advanced_is, stopped_is, closed_is}
 use Rattle.bodies.proofs.advance.advance.Goals as goal
 

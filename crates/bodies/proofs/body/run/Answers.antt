@@ -1,6 +1,5 @@
-use Rattle.std.proofs.Common.{◌≡◌, ◌+◌, ◌-◌, ◌*◌, ◌≤◌, length, get_or, drop, pos, sym, ◌∙◌, arith, length-drop, w32, rules}
+use Rattle.std.proofs.Common.{◌≡◌, ◌-◌, ◌*◌, ◌≤◌, length, get_or, drop, pos, ◌∙◌, arith, length-drop, rules}
 use Rattle.std.proofs.lemmas.List.{take_rest}
-use Rattle.std.proofs.lemmas.Int.{to_z-of_z}
 use Rattle.flat.specs.Instructions.{decoded}
 use Rattle.bodies.specs.Machine.{skip, step}
 use Rattle.bodies.specs.Memory.{meaning}

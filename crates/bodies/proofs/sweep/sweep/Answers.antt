@@ -1,4 +1,4 @@
-use Rattle.std.proofs.Common.{ℕ, ap, ◌∙◌, arith, rules}
+use Rattle.std.proofs.Common.{ℕ, ap, ◌∙◌, arith}
 use Rattle.bodies.specs.Memory.{meaning}
 use Rattle.bodies.specs.Sweep.{sweep}
 use Rattle.bodies.proofs.Sweeps.{sweep_again, sweep_stop}

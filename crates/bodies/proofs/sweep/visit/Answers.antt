@@ -1,4 +1,4 @@
-use Rattle.std.proofs.Common.{◌≡◌, ◌<◌, arith, rules}
+use Rattle.std.proofs.Common.{◌<◌, arith, rules}
 use Rattle.flat.specs.Words.{states}
 use Rattle.bodies.specs.Memory.{meaning, ran}
 use Rattle.bodies.proofs.Sweeps.{body_sound, visit_runs}

@@ -1,4 +1,4 @@
-use Rattle.std.proofs.Common.{◌≡◌, ◌+◌, ◌≤◌, true, length, sym, ap, ◌∙◌, rules}
+use Rattle.std.proofs.Common.{◌≡◌, ◌+◌, ◌≤◌, true, length, ap, ◌∙◌, rules}
 use Rattle.flat.specs.Words.{at, word}
 use Rattle.flat.specs.declared.head.Head.{Head}
 use Rattle.machine.specs.Scan.{World, same_word}
