@@ -3,7 +3,7 @@ use Rattle.std.proofs.Common.{◌≡◌, ℕ, ◌+◌, ◌-◌, ◌≤◌, true,
 use mathlib.Core.List.{map-map}
 use native.Mathlib.Nat.{sub-zero}
 use lib.ListN.{length-replicate}
-use Rattle.std.specs.List.{AllByRecursion as All}
+use Rattle.std.specs.List.{AllByRecursion}
 use Rattle.std.proofs.lemmas.List.{append-nil, drop_all, take_all}
 use Rattle.std.proofs.lemmas.Bool.{and_from, both_ways, cond-true, le-leb, le-ltb, lt-ltb, or_from}
 use Rattle.kinds.specs.Ops.{Ops}
@@ -57,7 +57,7 @@ row_up width row some of_width =
     cond-true (ltb 0 width && leb width (length row)) (up (take width row)) _ (and_from _ _ (lt-ltb 0 width some) (le-leb width (length row) (omega arith)))
     ∙ ap up (take_all width row (omega arith))
 
-rows_up : (width : ℕ) (rows : List (List ℤ)) → 1 ≤ width → All (RowOf width) rows → map (λ row. next_row width row 0) rows ≡ map up rows
+rows_up : (width : ℕ) (rows : List (List ℤ)) → 1 ≤ width → AllByRecursion (RowOf width) rows → map (λ row. next_row width row 0) rows ≡ map up rows
 rows_up width [] some each = refl
 rows_up width (row ∷ rows) some each = rw (row_up width row some each.0.0, rows_up width rows some each.1)
 
