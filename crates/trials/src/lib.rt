@@ -4,6 +4,6 @@
 #[cfg(test)]
 mod codes;
 #[cfg(test)]
-mod refusals;
+mod refused;
 #[cfg(test)]
 mod scans;
