@@ -187,7 +187,7 @@ line_of rows at (Some Out) = Line.output (word_at rows (second_row rows at))
 line_of rows at (Some Proc) = Line.process (word_at rows (second_row rows at))
 line_of rows at (Some State) = Line.state (word_at rows (second_row rows at)) (body_at rows at)
 
-abbrev pub line_at : List Row → ℕ → Line
+unfoldable pub line_at : List Row → ℕ → Line
 line_at rows at = line_of rows at (opener_at rows at)
 
 -- The m lines from a row on.

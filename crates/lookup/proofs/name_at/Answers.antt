@@ -4,12 +4,12 @@ use Rattle.language.specs.OnSheet.{opener_at}
 use Rattle.lookup.proofs.Lookups.{name_is}
 use Rattle.lookup.proofs.name_at.Goals as goal
 
-pub returns-then-has-name : goal.returns-then-has-name
-returns-then-has-name c =
+pub returns-then-has_name : goal.returns-then-has_name
+returns-then-has_name c =
     let e = name_is c.args.rows.now c.args.at (opener_at c.args.rows.now c.args.at) in
     search rules
 
-pub returns-else-has-name : goal.returns-else-has-name
-returns-else-has-name c =
+pub returns-else-has_name : goal.returns-else-has_name
+returns-else-has_name c =
     let e = name_is c.args.rows.now c.args.at (opener_at c.args.rows.now c.args.at) in
     search rules
