@@ -1,5 +1,5 @@
 -- The rows of the board.
-use Rattle.std.specs.Prelude.{ℕ, zero, suc, ◌+◌, ◌-◌, ◌^◌, min, List, [], ◌∷◌, set, replicate, pos, slice_index_or, slice_set}
+use Rattle.std.specs.Prelude.{ℕ, zero, suc, ◌+◌, ◌-◌, ◌^◌, min, List, [], ◌∷◌, replicate, pos, slice_index_or, slice_set}
 use Rattle.board.specs.declared.Board.{Board}
 use Rattle.board.specs.declared.rows.Row.{Row}
 

@@ -1,5 +1,6 @@
 // The board: a row for each process, and the output levels.
 #![tactic(auto)]
+
 ghost use Rattle.std.specs.Prelude.{◌≡◌, ℕ, ◌<◌, ◌≤◌};
 ghost use Rattle.hosts.specs.Levels.{settled};
 ghost use Rattle.board.specs.Rows.{state, clock, enter, rewind, ticked, first_board};

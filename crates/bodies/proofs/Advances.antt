@@ -1,5 +1,5 @@
 -- Laws of a scan on the cells and the board.
-use Rattle.std.proofs.Common.{◌≡◌, ℕ, zero, suc, ◌+◌, ◌-◌, ◌*◌, ◌<◌, ◌≤◌, List, [], ◌∷◌, ◌++◌, length, get_or, take, drop, set, replicate, ℤ, Some, None, Option, sym, refl, ap, ◌∙◌, subst, append_assoc, arith}
+use Rattle.std.proofs.Common.{◌≡◌, ℕ, ◌+◌, ◌<◌, ◌≤◌, List, [], ◌∷◌, ◌++◌, length, get_or, take, drop, set, replicate, ℤ, None, Option, sym, refl, ap, ◌∙◌, append_assoc, arith}
 use Rattle.std.proofs.lemmas.List.{take_more, drop_more, set_at, take_at, length-take-le}
 use Rattle.kinds.specs.Ops.{Ops}
 use Rattle.hosts.specs.Levels.{settled}
@@ -9,8 +9,8 @@ use Rattle.refusals.specs.declared.Fault.{Fault}
 use Rattle.refusals.specs.declared.Fault.TheVariants.{Divisor, Stack}
 use Rattle.board.specs.Rows.{ticked}
 use Rattle.bodies.specs.Machine.{Machine}
-use Rattle.bodies.specs.Sweep.{Swept, swept, sweep}
-use Rattle.bodies.specs.Advance.{begun, closed, Advanced, advanced, gave_up, finished, advance}
+use Rattle.bodies.specs.Sweep.{Swept, sweep}
+use Rattle.bodies.specs.Advance.{begun, closed, advanced, gave_up, finished, advance}
 use Rattle.bodies.specs.Memory.{meaning, given_up}
 
 -- one value more is copied

@@ -1,11 +1,11 @@
 -- Laws of a body's run.
-use Rattle.std.proofs.Common.{◌≡◌, ℕ, zero, suc, ◌+◌, ◌-◌, ◌*◌, ◌<◌, ◌≤◌, Bool, true, false, cond, ltb, List, [], ◌∷◌, length, get_or, drop, ℤ, pos, Ok, Err, Result, sym, refl, ap, ◌∙◌, subst, add-zero, add-one, arith}
+use Rattle.std.proofs.Common.{◌≡◌, ℕ, zero, suc, ◌+◌, ◌-◌, ◌*◌, ◌<◌, ◌≤◌, Bool, true, false, cond, ltb, List, [], ◌∷◌, length, get_or, drop, ℤ, pos, Ok, Err, Result, sym, refl, ap, ◌∙◌, subst, add-zero, arith}
 use Rattle.kinds.specs.Ops.{Ops}
 use Rattle.kinds.specs.declared.NoQuotient.{NoQuotient}
 use Rattle.flat.specs.Instructions.{decoded}
 use Rattle.flat.specs.declared.instr.Instr.{Instr}
 use Rattle.flat.specs.declared.instr.Instr.TheVariants.{End, Push, Convert, Combine, Jump, Unless, Keep, Drive, Set}
-use Rattle.bodies.specs.Machine.{Machine, Outcome, over, skip, no_quotient, no_room, step, with_stack, top_of, pop, push, push_result, combined}
+use Rattle.bodies.specs.Machine.{Machine, Outcome, over, skip, no_quotient, no_room, step, with_stack, top_of, push, push_result, combined}
 use Rattle.bodies.specs.Body.{done, run, follow}
 use Rattle.bodies.specs.Memory.{InRange, Inside, Sound}
 

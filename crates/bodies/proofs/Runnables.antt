@@ -1,12 +1,12 @@
 -- A code of the layout can be run: what its tests say of each instruction.
-use Rattle.std.proofs.Common.{◌≡◌, ℕ, zero, suc, ◌+◌, ◌-◌, ◌*◌, ◌<◌, ◌≤◌, Bool, true, false, ◌&&◌, ltb, List, [], ◌∷◌, length, get_or, drop, ℤ, pos, negsuc, sym, refl, ap, ◌∙◌, subst, inl, inr, eq-or-lt_of_le, arith, length-drop}
+use Rattle.std.proofs.Common.{◌≡◌, ℕ, zero, suc, ◌+◌, ◌-◌, ◌*◌, ◌<◌, ◌≤◌, true, false, ltb, List, [], ◌∷◌, length, get_or, drop, ℤ, pos, negsuc, sym, ap, ◌∙◌, subst, inl, inr, eq-or-lt_of_le, arith}
 use Rattle.std.proofs.lemmas.Bool.{ltb-true, and_parts, cases_lt, false≢true}
 use Rattle.std.proofs.lemmas.Bool.Decides.{nat_tests}
 use Rattle.std.proofs.lemmas.List.{drop-drop}
 use Rattle.flat.specs.declared.head.Head.{Head}
 use Rattle.flat.specs.declared.instr.Instr.{Instr}
 use Rattle.flat.specs.declared.instr.Instr.TheVariants.{End}
-use Rattle.flat.specs.Words.{natural, at, word, head, states, states_word, entry, body, opcode, operand}
+use Rattle.flat.specs.Words.{natural, at, word, head, states_word, body}
 use Rattle.flat.specs.Instructions.{table, decoded}
 use Rattle.flat.specs.Tests.{under, ahead, operand_fits, instruction_fits, instructions_fit}
 use Rattle.flat.specs.Layout.{Within, Layout}

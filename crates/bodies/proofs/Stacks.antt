@@ -1,10 +1,10 @@
 -- Laws of the stack in working memory.
-use Rattle.std.proofs.Common.{◌≡◌, ℕ, zero, suc, ◌+◌, ◌-◌, ◌<◌, ◌≤◌, true, false, cond, ltb, ◌≢◌, List, [], ◌∷◌, length, get_or, take, set, sym, refl, ap, ◌∙◌, subst, ap₂, add-one, arith, get_or-set_other, get_or-set_same}
+use Rattle.std.proofs.Common.{◌≡◌, ℕ, zero, suc, ◌+◌, ◌-◌, ◌<◌, ◌≤◌, true, false, ltb, ◌≢◌, List, [], ◌∷◌, length, get_or, take, set, sym, refl, ap, ◌∙◌, ap₂, add-one, arith, get_or-set_other, get_or-set_same}
 use lib.Seq.{take-set-le, take-set-lt}
 use Rattle.std.proofs.lemmas.Bool.{lt-ltb, le-ltb}
 use Rattle.kinds.specs.Ops.{Ops}
 use Rattle.bodies.specs.declared.step.Running.{Running}
-use Rattle.bodies.specs.Machine.{Machine, Outcome, skip, no_room, push, with_stack, with_cells}
+use Rattle.bodies.specs.Machine.{skip, no_room, push, with_stack, with_cells}
 use Rattle.bodies.specs.Memory.{stack, meaning}
 
 module _ {V : Type 0} (d : V) where

@@ -1,6 +1,6 @@
 -- Laws of a process's turn and of all processes in order.
-use Rattle.std.proofs.Common.{◌≡◌, ℕ, zero, suc, ◌+◌, ◌-◌, ◌*◌, ◌<◌, ◌≤◌, Bool, true, false, cond, ltb, List, [], ◌∷◌, length, drop, ℤ, Err, sym, refl, ap, ◌∙◌, subst, arith, length-drop}
-use Rattle.std.proofs.lemmas.Bool.{lt-ltb, le-ltb}
+use Rattle.std.proofs.Common.{◌≡◌, ℕ, suc, ◌+◌, ◌-◌, ◌*◌, ◌<◌, ◌≤◌, true, ltb, List, [], length, ℤ, Err, sym, refl, ap, ◌∙◌, arith, length-drop}
+use Rattle.std.proofs.lemmas.Bool.{lt-ltb}
 use Rattle.kinds.specs.Ops.{Ops}
 use Rattle.flat.specs.Words.{word, states, entry, body}
 use Rattle.refusals.specs.declared.Fault.{Fault}
@@ -8,7 +8,7 @@ use Rattle.refusals.specs.declared.Fault.TheVariants.{Divisor, Stack}
 use Rattle.board.specs.Rows.{state}
 use Rattle.bodies.specs.Machine.{Machine, with_stack}
 use Rattle.bodies.specs.Body.{Ran, done, run}
-use Rattle.bodies.specs.Sweep.{visit, visit_in, Swept, swept, no_divisor, no_stack, onward, sweep}
+use Rattle.bodies.specs.Sweep.{visit, swept, no_divisor, no_stack, onward, sweep}
 use Rattle.bodies.specs.Memory.{ran, given_up, Sound, Runnable}
 
 -- what the run of a body asks

@@ -1,5 +1,5 @@
 -- The flat machine: what each instruction does.
-use Rattle.std.specs.Prelude.{ℕ, ◌+◌, ◌-◌, Bool, true, false, cond, not, ◌||◌, List, [], ◌∷◌, length, ℤ, pos, Some, Ok, Err, Option, Result, ◌==◌, nat_lt, slice_index_or, slice_set}
+use Rattle.std.specs.Prelude.{ℕ, ◌+◌, ◌-◌, Bool, cond, not, ◌||◌, List, [], ◌∷◌, length, ℤ, pos, Some, Ok, Err, Option, Result, ◌==◌, nat_lt, slice_index_or, slice_set}
 use Rattle.kinds.specs.Ops.{Ops, flag}
 use Rattle.kinds.specs.declared.NoQuotient.{NoQuotient}
 use Rattle.flat.specs.declared.instr.Source.{Source}

@@ -1,5 +1,6 @@
 // The bodies of flat code: one instruction, a body, all processes, and what they leave of cells and board.
 #![tactic(auto)]
+
 pub mod advance;
 mod body;
 mod step;

@@ -1,8 +1,8 @@
 -- The tests of a code, put together, hold exactly of the codes of the layout.
-use Rattle.std.proofs.Common.{◌≡◌, ℕ, ◌+◌, ◌-◌, ◌*◌, ◌<◌, ◌≤◌, Bool, true, false, cond, ◌&&◌, eqb, ltb, leb, List, length, get_or, drop, ℤ, pos, negsuc, sym, refl, ap, ◌∙◌, inl, inr, arith, length-drop, get_or-drop}
+use Rattle.std.proofs.Common.{◌≡◌, ℕ, ◌+◌, ◌-◌, ◌*◌, ◌<◌, ◌≤◌, Bool, true, ◌&&◌, leb, List, length, get_or, ℤ, pos, negsuc, sym, refl, ap, ◌∙◌, inl, inr, arith, length-drop, get_or-drop}
 use Rattle.std.proofs.lemmas.Bool.{and_parts, cases_lt, ltb-true, leb-true, eqb-true, lt-ltb, le-ltb, le-leb, eq-eqb, false≢true}
 use Rattle.flat.specs.Words.{natural, at, word, head, states, states_word, entry_word, body, opcode, operand}
-use Rattle.flat.specs.Tests.{within, under, is_zero, every, timing_fits, memory_fits, program_fits, head_fits, entry_fits, process_fits, instruction_fits, instructions_fit, ends, rest_fits, fits}
+use Rattle.flat.specs.Tests.{within, under, is_zero, every, timing_fits, memory_fits, program_fits, head_fits, entry_fits, process_fits, instructions_fit, ends, rest_fits, fits}
 use Rattle.flat.specs.Layout.{Within, Layout}
 use Rattle.flat.proofs.Every.{every_at, every_made}
 use Rattle.flat.proofs.Pairs.{fit_at, fit_made}

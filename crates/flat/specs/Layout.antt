@@ -1,5 +1,5 @@
 -- Which codes are of the layout.
-use Rattle.std.specs.Prelude.{◌≡◌, ℕ, ◌+◌, ◌-◌, ◌*◌, ◌<◌, ◌≤◌, Bool, true, List, length, ℤ, pos, Ok, Err, Result}
+use Rattle.std.specs.Prelude.{◌≡◌, ℕ, ◌+◌, ◌-◌, ◌*◌, ◌<◌, ◌≤◌, true, List, length, ℤ, pos, Ok, Err, Result}
 use Rattle.flat.specs.declared.head.Head.{Head}
 use Rattle.flat.specs.declared.layout.NotFlatCode.{NotFlatCode}
 use Rattle.flat.specs.Words.{at, word, head, states, states_word, entry_word, opcode, operand}

@@ -1,13 +1,12 @@
 -- A line's parts, appended one behind another.
-use Rattle.std.proofs.Common.{◌≡◌, ℕ, List, ◌∷◌, ◌++◌, map, take, ℤ, decimal, Result}
-use Rattle.std.specs.List.{flat_map}
+use Rattle.std.proofs.Common.{◌≡◌, ℕ, List, ◌++◌, map, take, ℤ, Result}
 use Rattle.kinds.specs.Ops.{Ops}
 use Rattle.flat.specs.declared.head.Head.{Head}
 use Rattle.board.specs.declared.Board.{Board}
 use Rattle.board.specs.declared.rows.Row.{Row}
 use Rattle.numerals.specs.Print.{Appended}
 use Rattle.numerals.proofs.Appends.{appended_after}
-use Rattle.lines.specs.Lines.{shown_row, shown_tail, shown_line, scan_line}
+use Rattle.lines.specs.Lines.{shown_line, scan_line}
 
 -- Two parts make the whole.
 pub two_parts : {U E : Type 0} (before a b all one after : List ℕ) (r : Result U E) → one ≡ before ++ a → Appended one b r after → a ++ b ≡ all → Appended before all r after

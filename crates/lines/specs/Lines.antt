@@ -1,5 +1,5 @@
 -- The lines that are printed of a run.
-use Rattle.std.specs.Prelude.{ℕ, List, [], ◌∷◌, ◌++◌, map, take, ℤ, codes, decimal}
+use Rattle.std.specs.Prelude.{ℕ, List, ◌∷◌, ◌++◌, map, take, ℤ, codes, decimal}
 use Rattle.std.specs.List.{flat_map}
 use Rattle.kinds.specs.Ops.{Ops}
 use Rattle.flat.specs.declared.head.Head.{Head}

@@ -1,5 +1,6 @@
 // The lines that are printed of a run.
 #![tactic(auto)]
+
 ghost use Rattle.std.specs.Prelude.{◌≡◌, ◌∷◌, map, take, IfOk, decimal};
 ghost use Rattle.std.specs.List.{flat_map};
 ghost use Rattle.numerals.specs.Print.{Appended, bracketed};

@@ -2,7 +2,7 @@
 use Rattle.std.proofs.Common.{◌≡◌, ℕ, suc, ◌+◌, ◌-◌, ◌^◌, ◌<◌, ◌≤◌, Bool, true, List, [], ◌∷◌, ◌++◌, length, get_or, take, ℤ, pos, negsuc, Ok, Err, decimal, sym, refl, ap, ◌∙◌, append_assoc, arith, length-append, w32, SFits}
 use Rattle.std.specs.Int.{IsInRange}
 use Rattle.std.specs.Fmt.{signed_decimal}
-use Rattle.std.specs.List.{prefix_len, AllByRecursion as All}
+use Rattle.std.specs.List.{prefix_len, AllByRecursion}
 use Rattle.std.proofs.ByRecursion.{All-from_get_or, All-push}
 use Rattle.std.proofs.lemmas.List.{append_cancel_left, drop_at, flat_map_more, take-append-drop, take_at}
 use Rattle.numerals.specs.Print.{Kept, items, shown_list}
@@ -14,7 +14,7 @@ use Rattle.numerals.proofs.Appends.{kept_front}
 use Rattle.numerals.proofs.Numbers.{base_ten}
 
 -- The bytes that pass a test, up to one that does not, are the leading ones.
-leading_run : (p : ℕ → Bool) (xs ys : List ℕ) → All (λ x. p x ≡ true) xs → prefix_len p ys ≡ 0 → prefix_len p (xs ++ ys) ≡ length xs
+leading_run : (p : ℕ → Bool) (xs ys : List ℕ) → AllByRecursion (λ x. p x ≡ true) xs → prefix_len p ys ≡ 0 → prefix_len p (xs ++ ys) ≡ length xs
 leading_run p [] ys all stop = stop
 leading_run p (x ∷ xs) ys all stop = rw all.0 (omega (arith, leading_run p xs ys all.1 stop))
 
@@ -22,10 +22,10 @@ leading_run p (x ∷ xs) ys all stop = rw all.0 (omega (arith, leading_run p xs 
 digit_inside : (b : ℕ) → IsInRange 48 57 b → inside b ≡ true
 digit_inside b h = grind arith
 
-inside_decimal : (n : ℕ) → n < 2 ^ 64 → All (λ b. inside b ≡ true) (decimal n)
+inside_decimal : (n : ℕ) → n < 2 ^ 64 → AllByRecursion (λ b. inside b ≡ true) (decimal n)
 inside_decimal n small = All-from_get_or (λ b. inside b ≡ true) (decimal n) 0 (λ i h. digit_inside (get_or (decimal n) i 0) ((base_ten n small).digits i h))
 
-inside_signed : (v : ℤ) → SFits w32 v → All (λ b. inside b ≡ true) (signed_decimal v)
+inside_signed : (v : ℤ) → SFits w32 v → AllByRecursion (λ b. inside b ≡ true) (signed_decimal v)
 inside_signed (pos n) fit = inside_decimal n (omega arith)
 inside_signed (negsuc n) fit = (refl, inside_decimal (suc n) (omega arith))
 
@@ -58,7 +58,7 @@ no_ending text space end [] rest fit e = end rest e
 no_ending text space end (v ∷ vs) rest fit e = space _ e
 
 -- Behind a space a value has to follow, and behind it a line has to go on.
-pub no_ending_after : (text item : List ℕ) → text ≡ 32 ∷ item → ((v : ℤ) (vs : List ℤ) (rest : List ℕ) → SFits w32 v → All (SFits w32) vs → token item ≡ signed_decimal v → behind item ≡ ending vs rest → ⊥) → NoEnding text
+pub no_ending_after : (text item : List ℕ) → text ≡ 32 ∷ item → ((v : ℤ) (vs : List ℤ) (rest : List ℕ) → SFits w32 v → AllByRecursion (SFits w32) vs → token item ≡ signed_decimal v → behind item ≡ ending vs rest → ⊥) → NoEnding text
 no_ending_after text item space none [] rest fit e = let other : ◌≡◌ {A = ℕ} 32 41 = (let same = sym space ∙ e in cc) in omega arith
 no_ending_after text item space none (v ∷ vs) rest fit e =
     let is : item ≡ signed_decimal v ++ ending vs rest = (let same = sym space ∙ e ∙ ending_more v vs rest in cc) in

@@ -2,7 +2,7 @@
 use Rattle.std.specs.Prelude.{◌≡◌, ℕ, Bool, not, ◌&&◌, List, ◌∷◌, ◌++◌, length, take, drop, ℤ, Some, None, Ok, Err, Option, Result, FitsSigned, ◌==◌, ◌≢◌, nat_lt, slice_index}
 use Rattle.std.specs.Borrow.{Bor}
 use Rattle.std.specs.Int.{w32}
-use Rattle.std.specs.List.{prefix_len, AllByRecursion as All}
+use Rattle.std.specs.List.{prefix_len, AllByRecursion}
 use Rattle.lists.specs.declared.ListError.{ListError}
 use Rattle.lists.specs.declared.ListError.TheVariants.{NotAList, NoMemory}
 use Rattle.numerals.specs.Print.{items}
@@ -13,12 +13,12 @@ ending vs rest = items vs ++ 41 ∷ 10 ∷ rest
 
 -- No line goes on with this text behind its head.
 abbrev pub NoEnding : List ℕ → Type 0
-NoEnding text = (vs : List ℤ) (rest : List ℕ) → All (FitsSigned w32) vs → text ≢ ending vs rest
+NoEnding text = (vs : List ℤ) (rest : List ℕ) → AllByRecursion (FitsSigned w32) vs → text ≢ ending vs rest
 
 -- The values vs were read from the text and appended to those of before; where no line goes on with the rest, none does with the text.
 pub record Passed (text rest : List ℕ) (before after : List ℤ) : Type 0 where
   pub vs : List ℤ
-  pub fit : All (FitsSigned w32) vs
+  pub fit : AllByRecursion (FitsSigned w32) vs
   pub values : after ≡ before ++ vs
   pub front : text ≡ items vs ++ rest
   pub decides : NoEnding rest → NoEnding text

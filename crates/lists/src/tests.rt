@@ -15,7 +15,7 @@ fn rows(rt: HostRuntime) -> Result<(), Fail> {
         )?,
         31
     );
-    assert!(rt; values.as_slice() == [2147483647, -2147483648, 0]);
+    assert!(rt; values.as_slice() == [2147483647, -2147483648, 0].as_slice());
     Ok(())
 }
 
@@ -24,7 +24,7 @@ fn refused(heap: Global, line: &[u8]) -> Result<bool, ListError> {
     let mut values = Vec::new(heap);
     values.push(3)?;
     match read_list(line, b"row", &mut values) {
-        Err(ListError::NotAList) => Ok(values.as_slice() == [3]),
+        Err(ListError::NotAList) => Ok(values.as_slice() == [3].as_slice()),
         _ => Ok(false),
     }
 }

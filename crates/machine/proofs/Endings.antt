@@ -1,10 +1,10 @@
 -- Laws of a scan on a host.
-use Rattle.std.proofs.Common.{◌≡◌, ℕ, ◌+◌, ◌≤◌, Bool, true, false, cond, not, ◌||◌, ltb, List, length, ℤ, Err, Option, sym, refl, ap, ◌∙◌, subst, arith}
+use Rattle.std.proofs.Common.{◌≡◌, ℕ, ◌+◌, ◌≤◌, true, false, ltb, List, length, ℤ, Err, Option, sym, refl, ap, ◌∙◌, subst}
 use Rattle.std.proofs.lemmas.Bool.{le-ltb}
 use Rattle.kinds.specs.Ops.{Ops}
 use Rattle.hosts.specs.Meaning.{Pins, up}
 use Rattle.hosts.specs.Levels.{sensed, settled}
-use Rattle.flat.specs.Words.{at, word, head}
+use Rattle.flat.specs.Words.{at, word}
 use Rattle.board.specs.declared.Board.{Board}
 use Rattle.refusals.specs.declared.Place.{Place}
 use Rattle.refusals.specs.declared.ScanRefusal.{ScanRefusal}
@@ -13,7 +13,7 @@ use Rattle.refusals.specs.declared.Fault.{Fault}
 use Rattle.refusals.specs.declared.Fault.TheVariants.{Divisor, Stack}
 use Rattle.refusals.specs.Numbers.{refusal_of}
 use Rattle.bodies.specs.Sweep.{Swept, swept, no_divisor, no_stack}
-use Rattle.machine.specs.Scan.{World, Told, steps, refused_in, Scanned, counted, latched, ended, swept_on, same_word, short, sampled, scan}
+use Rattle.machine.specs.Scan.{World, Told, steps, refused_in, Scanned, counted, ended, swept_on, same_word, scan}
 use Rattle.machine.specs.Calls.{told, Untouched}
 use Rattle.bodies.specs.Advance.{Advanced, advanced, gave_up, finished, advance}
 

@@ -1,5 +1,5 @@
 -- The law of what a scan keeps.
-use Rattle.std.proofs.Common.{◌≡◌, ℕ, ◌+◌, Bool, true, false, cond, not, ◌||◌, ltb, List, length, ℤ, Ok, Err, Result, sym, refl, ap, ◌∙◌, subst, arith}
+use Rattle.std.proofs.Common.{◌≡◌, ℕ, ◌+◌, Bool, true, false, cond, not, ◌||◌, ltb, List, ℤ, Ok, Err, Result, sym, refl, ap, subst}
 use Rattle.kinds.specs.Ops.{Ops}
 use Rattle.hosts.specs.Meaning.{Meaning, Pins, up, down}
 use Rattle.flat.specs.Words.{at, word, head}
@@ -7,7 +7,7 @@ use Rattle.refusals.specs.declared.ScanRefusal.{ScanRefusal}
 use Rattle.refusals.specs.declared.ScanRefusal.TheVariants.{OtherKind, Short, Down, Divisor, Stack}
 use Rattle.bodies.specs.Sweep.{Swept, swept, no_divisor, no_stack}
 use Rattle.machine.specs.Scan.{World, Told, steps, refused, refused_by, refused_in, Scanned, counted, latched, ended, swept_on, sampled, same_word, short, scan}
-use Rattle.machine.specs.Calls.{State, world, told, Scans}
+use Rattle.machine.specs.Calls.{State, world, told}
 use Rattle.machine.specs.Laws.{Kept, Leaves, ScanLaw}
 
 -- what a scan leaves, by what it tells

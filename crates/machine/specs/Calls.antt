@@ -1,5 +1,5 @@
 -- What each call of a run promises, as a relation between its answer and what stood before and after.
-use Rattle.std.specs.Prelude.{◌≡◌, ℕ, Bool, true, false, List, ℤ, Ok, Err, Result}
+use Rattle.std.specs.Prelude.{◌≡◌, ℕ, true, false, List, ℤ, Ok, Err, Result}
 use Rattle.kinds.specs.Ops.{Ops}
 use Rattle.hosts.specs.Meaning.{Meaning}
 use Rattle.flat.specs.Layout.{Layout, Holds}

@@ -1,5 +1,5 @@
 -- One scan, from its refusals to its end.
-use Rattle.std.specs.Prelude.{ℕ, ◌+◌, ◌-◌, ◌^◌, min, Bool, true, false, cond, not, ◌||◌, List, ◌++◌, length, drop, ℤ, pos, negsuc, ◌==◌, nat_lt}
+use Rattle.std.specs.Prelude.{ℕ, ◌+◌, ◌-◌, ◌^◌, min, Bool, false, cond, not, ◌||◌, List, ◌++◌, length, drop, ℤ, pos, negsuc, ◌==◌, nat_lt}
 use Rattle.kinds.specs.Ops.{Ops}
 use Rattle.hosts.specs.Meaning.{Pins, up, down}
 use Rattle.hosts.specs.Levels.{sensed, settled}

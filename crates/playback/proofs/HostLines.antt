@@ -1,14 +1,12 @@
 -- A listing depends on how many lines a host has, and not on the levels that it has latched and holds.
-use Rattle.std.proofs.Common.{◌≡◌, ℕ, suc, ◌+◌, ◌≤◌, Bool, true, false, cond, not, ◌&&◌, ◌||◌, ltb, leb, List, [], ◌∷◌, ◌++◌, length, take, ℤ, Some, None, Option, sym, refl, ap, ◌∙◌, arith}
+use Rattle.std.proofs.Common.{◌≡◌, ℕ, suc, ◌+◌, Bool, true, false, cond, not, ◌&&◌, ◌||◌, ltb, leb, List, [], ◌∷◌, ◌++◌, length, take, ℤ, Some, None, Option, sym, refl, ap, ◌∙◌}
 use Rattle.std.proofs.lemmas.List.{length-take-le}
 use Rattle.std.proofs.lemmas.Bool.{and_parts, cond_both, leb-true}
 use Rattle.kinds.specs.Ops.{Ops}
 use Rattle.hosts.specs.Levels.{settled}
 use Rattle.hosts.specs.Meaning.{Pins, up, down}
 use Rattle.hosts.specs.TapeRows.{next_row}
-use Rattle.hosts.specs.declared.tape.Spent.{Spent}
 use Rattle.flat.specs.Words.{at, word, head}
-use Rattle.board.specs.declared.Board.{Board}
 use Rattle.machine.specs.Scan.{World, Told, Scanned, steps, refused, refused_by, refused_in, same_word, short, ended, swept_on, sampled, scan}
 use Rattle.bodies.specs.Sweep.{Swept, swept, no_divisor, no_stack}
 use Rattle.playback.specs.Listing.{continued, listing}

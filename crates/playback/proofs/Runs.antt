@@ -1,19 +1,18 @@
 -- What is printed of a run through rows, from its start on.
-use Rattle.std.proofs.Common.{◌≡◌, ℕ, ◌+◌, ◌-◌, ◌<◌, ◌≤◌, true, false, ◌&&◌, ◌||◌, ltb, leb, List, [], ◌∷◌, ◌++◌, map, length, take, drop, replicate, ℤ, pos, IfOk, Ok, Err, codes, Result, sym, refl, ap, ◌∙◌, subst, arith, w32, of_z}
+use Rattle.std.proofs.Common.{◌≡◌, ℕ, ◌+◌, ◌-◌, ◌≤◌, true, false, ◌&&◌, ltb, leb, List, [], ◌∷◌, ◌++◌, map, length, take, drop, replicate, ℤ, pos, IfOk, Ok, Err, codes, Result, sym, refl, ap, ◌∙◌, subst, arith, w32, of_z}
 use mathlib.Core.List.{map-map}
 use native.Mathlib.Nat.{sub-zero}
 use lib.ListN.{length-replicate}
-use Rattle.std.specs.List.{AllByRecursion as All}
+use Rattle.std.specs.List.{AllByRecursion}
 use Rattle.std.proofs.lemmas.List.{append-nil, drop_all, take_all}
 use Rattle.std.proofs.lemmas.Bool.{and_from, both_ways, cond-true, le-leb, le-ltb, lt-ltb, or_from}
 use Rattle.kinds.specs.Ops.{Ops}
 use Rattle.kinds.specs.Longs as Longs
 use Rattle.kinds.specs.Millis as Millis
-use Rattle.hosts.specs.Meaning.{Pins, up}
+use Rattle.hosts.specs.Meaning.{up}
 use Rattle.hosts.specs.TapeRows.{next_row, tape_lines, tape_means}
-use Rattle.hosts.specs.declared.tape.Spent.{Spent}
 use Rattle.hosts.specs.declared.tape.Tape.{Tape}
-use Rattle.flat.specs.Words.{at, head, word}
+use Rattle.flat.specs.Words.{at, word}
 use Rattle.flat.specs.Layout.{Holds, Within}
 use Rattle.flat.specs.declared.head.Head.{Head}
 use Rattle.machine.specs.declared.live.Live.{Live}
@@ -28,7 +27,7 @@ use Rattle.board.specs.Rows.{first_board}
 use Rattle.machine.specs.Scan.{World, same_word, short}
 use Rattle.lists.specs.Read.{ListRead}
 use Rattle.lines.specs.Lines.{refusal_line}
-use Rattle.playback.specs.Listing.{at_rest, beginning, listing, printed_rows, row_pins}
+use Rattle.playback.specs.Listing.{at_rest, listing, printed_rows, row_pins}
 use Rattle.playback.specs.Replay.{CodeLine, Ran, long_run, milli_run, no_rows, run_lines}
 use Rattle.rows.specs.Rows.{RowOf, WholeRows}
 use Rattle.rows.proofs.RowReads.{read_fit, read_whole}
@@ -58,7 +57,7 @@ row_up width row some of_width =
     cond-true (ltb 0 width && leb width (length row)) (up (take width row)) _ (and_from _ _ (lt-ltb 0 width some) (le-leb width (length row) (omega arith)))
     ∙ ap up (take_all width row (omega arith))
 
-rows_up : (width : ℕ) (rows : List (List ℤ)) → 1 ≤ width → All (RowOf width) rows → map (λ row. next_row width row 0) rows ≡ map up rows
+rows_up : (width : ℕ) (rows : List (List ℤ)) → 1 ≤ width → AllByRecursion (RowOf width) rows → map (λ row. next_row width row 0) rows ≡ map up rows
 rows_up width [] some each = refl
 rows_up width (row ∷ rows) some each = rw (row_up width row some each.0.0, rows_up width rows some each.1)
 

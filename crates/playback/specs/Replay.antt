@@ -1,7 +1,7 @@
 -- What is printed for an input of a stored code and rows.
 use Rattle.std.specs.Prelude.{◌≡◌, ℕ, ◌+◌, ◌<◌, ◌≤◌, List, ◌++◌, map, length, ℤ, pos, codes, FitsSigned}
 use Rattle.std.specs.Int.{w32}
-use Rattle.std.specs.List.{AllByRecursion as All}
+use Rattle.std.specs.List.{AllByRecursion}
 use Rattle.kinds.specs.Ops.{Ops}
 use Rattle.kinds.specs.Longs as Longs
 use Rattle.kinds.specs.Millis as Millis
@@ -31,7 +31,7 @@ pub data Ran (code : List ℤ) (text : List ℕ) : List ℕ → Type 0 where
 
 -- The input is the line `(code w ...)` of a code of 32-bit words, and the text behind it.
 pub record CodeLine (input : List ℕ) (code : List ℤ) (text : List ℕ) : Type 0 where
-  pub fit : All (FitsSigned w32) code
+  pub fit : AllByRecursion (FitsSigned w32) code
   pub print : input ≡ shown_list (codes "code") code ++ text
 
 -- What is printed for an input: one without a code line in front is refused by (no 0 0).

@@ -1,5 +1,6 @@
 // Replays a stored code through rows of levels, both from standard input, and prints a line for each scan.
 #![tactic(auto)]
+
 use playback::replay::{LIMIT, replay};
 use std::io;
 use std::io::{Read, Write};

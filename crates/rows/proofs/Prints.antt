@@ -1,13 +1,12 @@
 -- The print of a list tells the list.
-use Rattle.std.proofs.Common.{◌≡◌, ℕ, suc, ◌^◌, ◌<◌, Bool, true, false, List, [], ◌∷◌, ◌++◌, get_or, ℤ, pos, negsuc, decimal, sym, refl, ap, ◌∙◌, append_assoc, arith, w32, SFits}
+use Rattle.std.proofs.Common.{◌≡◌, ℕ, suc, ◌^◌, ◌<◌, true, false, List, [], ◌∷◌, ◌++◌, ℤ, pos, negsuc, decimal, sym, refl, ap, ◌∙◌, append_assoc, arith, w32, SFits}
 use Rattle.std.specs.Str.Parse.{digits_value}
-use Rattle.std.specs.Int.{IsInRange}
 use Rattle.std.specs.Fmt.{signed_decimal}
-use Rattle.std.specs.List.{AllByRecursion as All}
+use Rattle.std.specs.List.{AllByRecursion}
 use Rattle.std.proofs.ByRecursion.{All-from_get_or}
 use Rattle.std.proofs.lemmas.List.{append_cancel_left}
 use Rattle.std.proofs.lemmas.Bool.{both_ways}
-use Rattle.numerals.specs.Print.{items, shown_list}
+use Rattle.numerals.specs.Print.{items}
 use Rattle.lists.specs.Steps.{ending, inside}
 use Rattle.numerals.proofs.Numbers.{base_ten}
 use Rattle.rows.specs.Rows.{PrintTells}
@@ -26,7 +25,7 @@ clash : (a b : ℕ) (x y : List ℕ) → inside a ≡ true → inside b ≡ fals
 clash a b x y in-a ends-b e = both_ways (inside b) ends-b (ap inside (let same : b ≡ a = cc in same) ∙ in-a)
 
 -- So a number and what follows it are told apart.
-split : (ds es xs ys : List ℕ) → All (λ b. inside b ≡ true) ds → All (λ b. inside b ≡ true) es → Stops xs → Stops ys → ds ++ xs ≡ es ++ ys → (ds ≡ es) × (xs ≡ ys)
+split : (ds es xs ys : List ℕ) → AllByRecursion (λ b. inside b ≡ true) ds → AllByRecursion (λ b. inside b ≡ true) es → Stops xs → Stops ys → ds ++ xs ≡ es ++ ys → (ds ≡ es) × (xs ≡ ys)
 split [] [] xs ys in-ds in-es stop stop₁ e = (refl, e)
 split [] (b ∷ es) [] ys in-ds in-es stop stop₁ e = absurd stop
 split [] (b ∷ es) (x ∷ xs) ys in-ds in-es stop stop₁ e = absurd (clash b x (es ++ ys) xs in-es.0 stop (sym e))
@@ -38,10 +37,10 @@ split (d ∷ ds) (b ∷ es) xs ys in-ds in-es stop stop₁ e =
     (ap (λ x. x ∷ ds) heads ∙ ap (λ x. b ∷ x) rest.0, rest.1)
 
 -- The digits and the sign of a number stand inside it.
-digits_inside : (n : ℕ) → n < 2 ^ 64 → All (λ b. inside b ≡ true) (decimal n)
+digits_inside : (n : ℕ) → n < 2 ^ 64 → AllByRecursion (λ b. inside b ≡ true) (decimal n)
 digits_inside n small = All-from_get_or (λ b. inside b ≡ true) (decimal n) 0 (λ i h. let digit = (base_ten n small).digits i h in grind arith)
 
-signed_inside : (v : ℤ) → SFits w32 v → All (λ b. inside b ≡ true) (signed_decimal v)
+signed_inside : (v : ℤ) → SFits w32 v → AllByRecursion (λ b. inside b ≡ true) (signed_decimal v)
 signed_inside (pos n) fit = digits_inside n (omega arith)
 signed_inside (negsuc n) fit = (refl, digits_inside (suc n) (omega arith))
 
@@ -61,7 +60,7 @@ signed_tells (negsuc m) (negsuc n) fit fit₁ e =
     ap negsuc (omega arith)
 
 -- How a line goes on behind its head tells the values and the rest.
-ending_tells : (vs ws : List ℤ) (x y : List ℕ) → All (SFits w32) vs → All (SFits w32) ws → ending vs x ≡ ending ws y → (vs ≡ ws) × (x ≡ y)
+ending_tells : (vs ws : List ℤ) (x y : List ℕ) → AllByRecursion (SFits w32) vs → AllByRecursion (SFits w32) ws → ending vs x ≡ ending ws y → (vs ≡ ws) × (x ≡ y)
 ending_tells [] [] x y fit fit₁ e = (refl, cc)
 ending_tells [] (w ∷ ws) x y fit fit₁ e = absurd (let other : ◌≡◌ {A = ℕ} 41 32 = cc in omega arith)
 ending_tells (v ∷ vs) [] x y fit fit₁ e = absurd (let other : ◌≡◌ {A = ℕ} 32 41 = cc in omega arith)

@@ -1,6 +1,6 @@
 -- Rows read one after another.
 use Rattle.std.proofs.Common.{◌≡◌, ℕ, ◌-◌, ◌<◌, ◌≤◌, true, false, eqb, List, [], ◌∷◌, ◌++◌, map, length, take, drop, ℤ, Ok, codes, sym, refl, ap, ◌∙◌, subst, append_assoc, arith, length-append, w32, SFits}
-use Rattle.std.specs.List.{AllByRecursion as All}
+use Rattle.std.specs.List.{AllByRecursion}
 use Rattle.std.proofs.ByRecursion.{All-push}
 use Rattle.std.proofs.lemmas.List.{append-nil, flat_map_more, map_push, nil_from_length, take-append-drop, take_rest}
 use Rattle.std.proofs.lemmas.Bool.{eqb-false, eqb-true}
@@ -14,7 +14,7 @@ module _ (head text : List ℕ) (before vs : List ℤ) (n : ℕ) (read : ListRea
   shown : Shown head text vs n
   shown = subst (λ ws. Shown head text ws n) (sym (read.2 ∙ ap (λ x. x ++ read.0) empty)) read.1
 
-  pub read_fit : All (SFits w32) vs
+  pub read_fit : AllByRecursion (SFits w32) vs
   read_fit = shown.fit
 
   pub read_whole : text ≡ shown_list head vs ++ take (length text - n) (drop n text)
@@ -28,11 +28,11 @@ other_width width text before vs n read empty other row rest of_width e =
 
 -- No rows of the width make up the text.
 abbrev pub NoRows : ℕ → List ℕ → Type 0
-NoRows width text = (rows : List (List ℤ)) → All (RowOf width) rows → text ≡ shown_rows rows → ⊥
+NoRows width text = (rows : List (List ℤ)) → AllByRecursion (RowOf width) rows → text ≡ shown_rows rows → ⊥
 
 -- These rows were read from a text; where no rows make up what is left, none make up the text.
 pub record PassedRows (width : ℕ) (text left : List ℕ) (rows : List (List ℤ)) : Type 0 where
-  pub each : All (RowOf width) rows
+  pub each : AllByRecursion (RowOf width) rows
   pub front : text ≡ shown_rows rows ++ left
   pub decides : NoRows width left → NoRows width text
 

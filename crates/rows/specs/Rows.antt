@@ -2,7 +2,7 @@
 use Rattle.std.specs.Prelude.{◌≡◌, ℕ, ◌≤◌, List, ◌++◌, map, length, ℤ, Some, None, vec_items, codes, Option, Vec, FitsSigned, ◌≢◌}
 use Rattle.std.specs.Borrow.{Bor}
 use Rattle.std.specs.Int.{w32}
-use Rattle.std.specs.List.{flat_map, AllByRecursion as All}
+use Rattle.std.specs.List.{flat_map, AllByRecursion}
 use Rattle.std.specs.declared.alloc.Global.{Global}
 use Rattle.numerals.specs.Print.{shown_list}
 
@@ -15,17 +15,17 @@ shown_rows rows = flat_map shown_row_line rows
 
 -- A row of so many numbers, each of 32 bits.
 abbrev pub RowOf : ℕ → List ℤ → Type 0
-RowOf width row = (length row ≡ width) × All (FitsSigned w32) row
+RowOf width row = (length row ≡ width) × AllByRecursion (FitsSigned w32) row
 
 -- The text is the print of these rows, each of so many numbers, of which there is at least one.
 pub record WholeRows (width : ℕ) (text : List ℕ) (rows : List (List ℤ)) : Type 0 where
   pub some : 1 ≤ width
-  pub each : All (RowOf width) rows
+  pub each : AllByRecursion (RowOf width) rows
   pub print : text ≡ shown_rows rows
 
 -- The print of a list tells the list: no other list of numbers of 32 bits with this head has it in front of a text.
 abbrev pub PrintTells : Type 0
-PrintTells = (head : List ℕ) (vs ws : List ℤ) (x y : List ℕ) → All (FitsSigned w32) vs → All (FitsSigned w32) ws → shown_list head vs ++ x ≡ shown_list head ws ++ y → (vs ≡ ws) × (x ≡ y)
+PrintTells = (head : List ℕ) (vs ws : List ℤ) (x y : List ℕ) → AllByRecursion (FitsSigned w32) vs → AllByRecursion (FitsSigned w32) ws → shown_list head vs ++ x ≡ shown_list head ws ++ y → (vs ≡ ws) × (x ≡ y)
 
 -- A row of so many numbers was looked for at the start of a text: it was read, and what follows it is told; or there is none.
 abbrev pub RowFound : ℕ → List ℕ → Option (Vec ℤ Global × Bor (List ℕ)) → Type 0

@@ -1,5 +1,6 @@
 // Rows of levels, read from bytes.
 #![tactic(auto)]
+
 ghost use Rattle.std.specs.Prelude.{IfOk};
 ghost use Rattle.rows.specs.Rows.{PrintTells, RowFound, RowsFound};
 

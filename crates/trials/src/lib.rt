@@ -1,5 +1,6 @@
 // Tests of whole runs, through the open calls alone.
 #![tactic(auto)]
+
 #[cfg(test)]
 mod codes;
 #[cfg(test)]

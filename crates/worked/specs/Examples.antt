@@ -1,6 +1,6 @@
 -- The worked examples, in one list.
-use Rattle.std.specs.Prelude.{◌≡◌, ℕ, ◌-◌, ◌^◌, Bool, true, false, List, [], ◌∷◌, ◌++◌, length, take, replicate, ℤ, pos, negsuc}
-use Rattle.std.specs.List.{AllByRecursion as All}
+use Rattle.std.specs.Prelude.{◌≡◌, ℕ, true, List, [], ◌∷◌, ◌++◌, length, take, replicate, ℤ, pos}
+use Rattle.std.specs.List.{AllByRecursion}
 use Rattle.kinds.specs.declared.long.Long.{Long}
 use Rattle.kinds.specs.Longs as Longs
 use Rattle.hosts.specs.Meaning.{up}
@@ -8,7 +8,7 @@ use Rattle.flat.specs.Words.{head}
 use Rattle.flat.specs.Tests.{fits}
 use Rattle.board.specs.declared.rows.Row.{Row}
 use Rattle.board.specs.Rows.{first_board}
-use Rattle.machine.specs.Scan.{World, Told, steps, refused, refused_in, Scanned, scan}
+use Rattle.machine.specs.Scan.{World, Told, steps, refused_in, Scanned, scan}
 use Rattle.machine.specs.Start.{started}
 use Rattle.worked.specs.Guard.{guard}
 
@@ -100,4 +100,4 @@ examples =
 
 -- Each example's code is of the layout, and its scans are seen as they should be.
 abbrev pub WorkedExamples : Type 0
-WorkedExamples = (length guard ≡ 87) × All (λ e. (fits e.code ≡ true) × (scans e.code e.levels (fresh e.code) ≡ e.wanted)) examples
+WorkedExamples = (length guard ≡ 87) × AllByRecursion (λ e. (fits e.code ≡ true) × (scans e.code e.levels (fresh e.code) ≡ e.wanted)) examples

@@ -4,4 +4,4 @@ use Rattle.lines.proofs.Parts.{two_parts}
 use Rattle.lines.proofs.push_group.Goals as goal
 
 pub returns : goal.returns
-returns c = let space = c.in-ok-push-bytes.ensures in search (rules, two_parts)
+returns c = let space = c.in_ok-push_bytes.ensures in search (rules, two_parts)

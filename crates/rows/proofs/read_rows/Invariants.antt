@@ -1,5 +1,5 @@
 -- The rows so far are read, and less is left with each.
-use Rattle.std.proofs.Common.{◌≤◌, map, length, vec_items}
+use Rattle.std.proofs.Common.{map, length, vec_items}
 use Rattle.rows.proofs.RowReads.{PassedRows}
 use Rattle.rows.proofs.read_rows.Given as goal
 

@@ -1,4 +1,4 @@
-use Rattle.std.proofs.Common.{◌≡◌, take}
+use Rattle.std.proofs.Common.{◌≡◌}
 use Rattle.board.specs.Rows.{ticked}
 use Rattle.board.proofs.Board.tick.Given as goal
 

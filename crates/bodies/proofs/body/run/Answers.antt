@@ -1,6 +1,5 @@
-use Rattle.std.proofs.Common.{◌≡◌, ◌+◌, ◌-◌, ◌*◌, ◌≤◌, length, get_or, drop, pos, sym, ◌∙◌, arith, length-drop, w32, rules}
+use Rattle.std.proofs.Common.{◌≡◌, ◌-◌, ◌*◌, ◌≤◌, length, get_or, drop, pos, ◌∙◌, arith, length-drop, rules}
 use Rattle.std.proofs.lemmas.List.{take_rest}
-use Rattle.std.proofs.lemmas.Int.{to_z-of_z}
 use Rattle.flat.specs.Instructions.{decoded}
 use Rattle.bodies.specs.Machine.{skip, step}
 use Rattle.bodies.specs.Memory.{meaning}
@@ -24,20 +23,20 @@ few g c =
     let m₁ = meaning g.K.Kind.ops c.args.base c.step.new.work c.step.new.t in
     omega (arith, turn_short g.K.Kind.ops c.args.seen.now c.args.p c.args.base c.loop-left.i c.loop-left.left.now m m₁ c.decode.result c.in-Skip.n (two_words g c) (instruction g c) c.loop-left.invariant.1 (goes_on g c), length-drop 2 c.loop-left.left.now)
 
-pub overflow-mul-left : goal.overflow-mul-left
-overflow-mul-left g c = omega (arith, few g c, c.loop-left.invariant.3)
+pub overflow_mul-left : goal.overflow_mul-left
+overflow_mul-left g c = omega (arith, few g c, c.loop-left.invariant.3)
 
-pub offset-bounds-rest-n : goal.offset-bounds-rest-n
-offset-bounds-rest-n g c = omega (arith, few g c, c.loop-left.invariant.3)
+pub offset_bounds-rest-n : goal.offset_bounds-rest-n
+offset_bounds-rest-n g c = omega (arith, few g c, c.loop-left.invariant.3)
 
-pub slice-bounds-left-count : goal.slice-bounds-left-count
-slice-bounds-left-count g c = simp (take_rest, length-drop) (few g c)
+pub slice_bounds-left-count : goal.slice_bounds-left-count
+slice_bounds-left-count g c = simp (take_rest, length-drop) (few g c)
 
-pub slice-bounds-left-start : goal.slice-bounds-left-start
-slice-bounds-left-start g c = slice-bounds-left-count g c
+pub slice_bounds-left-start : goal.slice_bounds-left-start
+slice_bounds-left-start g c = slice_bounds-left-count g c
 
-pub slice-bounds-left-end : goal.slice-bounds-left-end
-slice-bounds-left-end g c = omega arith
+pub slice_bounds-left-end : goal.slice_bounds-left-end
+slice_bounds-left-end g c = omega arith
 
 pub loop-left-preserved : goal.loop-left-preserved
 loop-left-preserved g c =
@@ -54,8 +53,8 @@ loop-left-preserved g c =
     let shallow : c.step.new.t.depth ≤ 16 = search rules in
     simp take_rest (both.0 ∙ c.loop-left.invariant.0, both.1, shallow, omega arith, omega arith)
 
-pub overflow-add-steps : goal.overflow-add-steps
-overflow-add-steps g c = omega arith
+pub overflow_add-steps : goal.overflow_add-steps
+overflow_add-steps g c = omega arith
 
 pub step-requires : goal.step-requires
 step-requires g c =

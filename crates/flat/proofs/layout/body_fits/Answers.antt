@@ -1,7 +1,7 @@
 use Rattle.std.proofs.Common.{◌≡◌, ℕ, ◌+◌, ◌*◌, drop, ap, ◌∙◌, arith}
 use Rattle.std.proofs.lemmas.List.{take_rest}
 use Rattle.flat.specs.declared.head.Head.{Head}
-use Rattle.flat.specs.Words.{word, head, body}
+use Rattle.flat.specs.Words.{word, head}
 use Rattle.flat.specs.Tests.{instructions_fit}
 use Rattle.flat.proofs.layout.body_fits.Goals as goal
 

@@ -1,4 +1,4 @@
-use Rattle.std.proofs.Common.{sym, ◌∙◌, arith, rules}
+use Rattle.std.proofs.Common.{◌∙◌, arith, rules}
 use Rattle.flat.specs.Tests.{entry_fits}
 use Rattle.flat.proofs.Every.{every_go, every_stop, every_done}
 use Rattle.flat.proofs.layout.entries_fit.Goals as goal

@@ -1,4 +1,4 @@
-use Rattle.std.proofs.Common.{ℕ, ap, ◌∙◌, arith, rules}
+use Rattle.std.proofs.Common.{ap, ◌∙◌, arith, rules}
 use Rattle.flat.specs.Tests.{every, process_fits}
 use Rattle.flat.proofs.Every.{every_go, every_stop, every_done}
 use Rattle.flat.proofs.layout.processes_fit.Goals as goal

@@ -19,7 +19,7 @@ returns-in-Ok g c =
     let latch = g.H.Host.means.latch c.args.host.now in
     let w : World g.row.K.Denot = record { cells = c.args.cells.now; board = c.args.board.now; scans = c.args.self.now.scans; latch = latch; held = g.H.Host.means.held c.args.host.now } in
     record {
-      result = goes_well g.K.Kind.ops c.args.self.now.code.now w c.in-Ok.done.0 c.in-Ok.done.1 c.advance.new.cells c.advance.new.board c.saturating-add-self.result c.sense-seen.result latch (g.H.Host.means.latch c.put-all.new.host) (g.H.Host.means.held c.put-all.new.host) c.sense-seen.ensures c.in-Ok.ensures.result c.saturating-add-self.ensures c.put-all.ensures.latch c.put-all.ensures.held;
+      result = goes_well g.K.Kind.ops c.args.self.now.code.now w c.in-Ok.done.0 c.in-Ok.done.1 c.advance.new.cells c.advance.new.board c.saturating_add-self.result c.sense-seen.result latch (g.H.Host.means.latch c.put_all.new.host) (g.H.Host.means.held c.put_all.new.host) c.sense-seen.ensures c.in-Ok.ensures.result c.saturating_add-self.ensures c.put_all.ensures.latch c.put_all.ensures.held;
       untouched = λ h h₁. tt;
       code = refl;
       head = refl;

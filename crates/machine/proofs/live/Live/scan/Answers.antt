@@ -1,4 +1,4 @@
-use Rattle.std.proofs.Common.{◌≡◌, ◌+◌, ◌≤◌, true, length, sym, ap, ◌∙◌, rules}
+use Rattle.std.proofs.Common.{◌≡◌, ◌+◌, ◌≤◌, true, length, ap, ◌∙◌, rules}
 use Rattle.flat.specs.Words.{at, word}
 use Rattle.flat.specs.declared.head.Head.{Head}
 use Rattle.machine.specs.Scan.{World, same_word}
@@ -19,7 +19,7 @@ returns g c =
     let is = c.requires.mounted.head_is in
     let w : World g.row.K.Denot = record { cells = c.args.cells.now; board = c.args.board.now; scans = c.args.self.now.scans; latch = g.H.Host.means.latch host; held = g.H.Host.means.held host } in
     let levels = g.H.Host.means.latch c.sample.new.host in
-    let sampled = c.in-ok-sample.ensures in
+    let sampled = c.in_ok-sample.ensures in
     let e : same_word (at code 0) k.number ≡ true = search rules in
     let room : word code 2 + 16 ≤ length c.args.work.now = search rules in
     let cells : word code 2 ≤ length c.args.cells.now = search rules in
