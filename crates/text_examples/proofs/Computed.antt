@@ -9,10 +9,10 @@ use Rattle.language.specs.House.{house}
 use Rattle.language.specs.Translation.{Answer, translated}
 use Rattle.language.specs.Words.{words}
 use Rattle.worked.specs.Guard.{guard}
-use Rattle.worked.specs.Examples.{Seen, scans, fresh, examples}
+use Rattle.worked.specs.Examples.{scans, fresh, examples}
 use Rattle.text_examples.specs.Codes.{and_code}
 use Rattle.text_examples.specs.Texts.{guard_text, and_text}
-use Rattle.text_examples.specs.Examples.{Case, Holds, translate, code_of, seen_scans, text_scans, guard_levels, guard_wanted, and_wanted, value_cases, text_cases, code_cases, cases}
+use Rattle.text_examples.specs.Examples.{Holds, translate, code_of, seen_scans, text_scans, guard_levels, guard_wanted, and_wanted, value_cases, text_cases, code_cases, cases}
 
 -- What holds of each of two lists holds of each of both.
 both : {A : Type 0} (P : A → Type 0) (xs ys : List A) → AllByRecursion P xs → AllByRecursion P ys → AllByRecursion P (xs ++ ys)

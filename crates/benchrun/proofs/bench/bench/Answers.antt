@@ -1,9 +1,9 @@
 -- The limit decides, and the input is split where its tape begins.
-use Rattle.std.proofs.Common.{◌≡◌, take, drop, vec_items, sym, ap, ◌∙◌, subst}
+use Rattle.std.proofs.Common.{take, drop, vec_items, ap, ◌∙◌, subst}
 use Rattle.std.proofs.lemmas.Result.{IfOk-weaker}
 use Rattle.playback.proofs.Runs.{given}
 use Rattle.benchrun.specs.Bench.{Benched, Answered, too_long, in_limit, sheet_rows, code_room}
-use Rattle.benchrun.specs.Split.{tape_at, text_in, tape_in}
+use Rattle.benchrun.specs.Split.{tape_in}
 use Rattle.benchrun.proofs.Splits.{tape_within}
 use Rattle.benchrun.proofs.bench.bench.Goals as goal
 

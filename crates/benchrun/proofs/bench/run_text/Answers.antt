@@ -7,7 +7,7 @@ use Rattle.lines.specs.Lines.{refusal_line}
 use Rattle.playback.specs.Replay.{Ran}
 use Rattle.checks.specs.Refusals.{refusal_number, refusal_line as refusal-place}
 use Rattle.benchrun.specs.Bench.{Answered, no_code, ran}
-use Rattle.benchrun.proofs.Outcomes.{Written, wrote_words, told_refusal}
+use Rattle.benchrun.proofs.Outcomes.{wrote_words, told_refusal}
 use Rattle.benchrun.proofs.bench.run_text.Goals as goal
 
 pub slice_bounds-run_code-end : goal.slice_bounds-run_code-end

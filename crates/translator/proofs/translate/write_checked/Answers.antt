@@ -1,5 +1,5 @@
 -- A cause is told, or the code is short, or the words are written.
-use Rattle.std.proofs.Common.{◌≡◌, ◌<◌, ◌≤◌, length, sym, refl, ap, ◌∙◌}
+use Rattle.std.proofs.Common.{◌<◌, ◌≤◌, length, sym, ap, ◌∙◌}
 use Rattle.std.proofs.lemmas.Result.{err_from_is_err_and}
 use Rattle.text.specs.Sheet.{forms_at}
 use Rattle.language.specs.OnSheet.{lines_at}
