@@ -1,5 +1,6 @@
 // Translates a sequence, runs it through a tape, both from standard input, and prints a line for each scan.
 #![tactic(auto)]
+
 use benchrun::bench::{LIMIT, bench};
 use std::io;
 use std::io::{Read, Write};

@@ -1,9 +1,9 @@
 -- What an outcome of translate says of the translation.
-use Rattle.std.proofs.Common.{◌≡◌, ℕ, ◌≤◌, List, [], ◌∷◌, ◌++◌, length, take, drop, ℤ, IfOk, Ok, Err, Result, sym, refl, ap, ◌∙◌, subst, arith, length-append}
+use Rattle.std.proofs.Common.{◌≡◌, ℕ, ◌≤◌, List, ◌++◌, length, take, drop, ℤ, IfOk, Result, refl, ap, ◌∙◌, subst, arith, length-append}
 use Rattle.std.proofs.lemmas.List.{take_at}
 use Rattle.language.specs.Translation.{Answer}
 use Rattle.benchrun.specs.Bench.{Answered}
-use Rattle.translator.specs.Outcome.{Told, Outcome, outcome, wrote, refused}
+use Rattle.translator.specs.Outcome.{Outcome, outcome, wrote, refused}
 
 -- The words that were written stand in front of the code.
 pub record Written (a : Answer) (new : List ℤ) (n most : ℕ) : Type 0 where

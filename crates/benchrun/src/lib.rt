@@ -1,4 +1,5 @@
 // A sequence and a tape, from bytes to the lines that are printed.
 #![tactic(auto)]
+
 pub mod bench;
 pub mod split;

@@ -1,5 +1,6 @@
 // Runs bench on each example file that the arguments name, and prints what it gives.
 #![tactic(auto)]
+
 use benchrun::bench::bench;
 use std::io::Write;
 use std::{env, fs};

@@ -263,6 +263,7 @@ module _ (rows : List Row) (at : ℕ) where
       let n : count_at rows at - 2 ≡ j = omega arith in rw n (cc (word_as 12 rows _ p q, body_read 12 rows (act_at 12 rows) (act_read 12 rows) (third_row rows at) j b e))
 
   line_row_read : (x : Row) → row_at rows at ≡ x → {l : Line} → line (shape (items_at (form_at 12 rows) rows (inner_row rows at)) x) ≡ Some l → line_at rows at ≡ l
+  unfolding line_at
   line_row_read (WordRow w) x r = absurd (no_value r)
   line_row_read (NumberRow w) x r = absurd (no_value r)
   line_row_read (Items k n) x r = takes_read _ rows _ k as_opener line_row r λ j i o m p s t. then_read (as_house i) opens s λ h a b. rw (house_as 12 rows _ p a, b) (opener_row_read j o (ap count_in x ∙ m) t)

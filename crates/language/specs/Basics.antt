@@ -1,5 +1,5 @@
 -- Small tools: words, values that may be missing, tests over lists.
-use Rattle.std.specs.Prelude.{ℕ, zero, suc, ◌+◌, min, Bool, true, false, cond, ◌&&◌, ◌||◌, List, [], ◌∷◌, Some, None, Option}
+use Rattle.std.specs.Prelude.{ℕ, suc, ◌+◌, min, Bool, false, cond, ◌||◌, List, [], ◌∷◌, Some, None, Option}
 use Rattle.std.specs.Str.{bytes_eq}
 
 -- A word, as its bytes.

@@ -1,6 +1,6 @@
 -- What is wrong with a text: each cause, with the first line where it holds.
 -- In each, `before` has the lines before a line, the nearest first, and `behind` those that follow it.
-use Rattle.std.specs.Prelude.{ℕ, Bool, true, false, cond, not, ◌&&◌, ◌||◌, ltb, List, [], ◌∷◌, map, length, ℤ, pos, is_some, Some, None, Option, ◌==◌, nat_le, nat_lt}
+use Rattle.std.specs.Prelude.{ℕ, Bool, true, false, cond, not, ◌&&◌, ◌||◌, ltb, List, [], ◌∷◌, map, length, pos, is_some, Some, None, Option, ◌==◌, nat_le, nat_lt}
 use Rattle.text.specs.Form.{Form, Forms, none, more}
 use Rattle.language.specs.Basics.{Word, any, count, collect, among, those, leading, total, first_where, earliest}
 use Rattle.language.specs.Numbers.{value_of, within, short}

@@ -1,12 +1,12 @@
 -- From statements to flat code: how many instructions each takes, which, and how many run at most.
-use Rattle.std.specs.Prelude.{ℕ, ◌+◌, max, List, [], ◌∷◌}
+use Rattle.std.specs.Prelude.{ℕ, ◌+◌, max, List, ◌∷◌}
 use Rattle.language.specs.Tree.{Expr, number, cell, input, output, two, isnt, both, either, active, stopped, failed, passive}
 use Rattle.language.specs.Tree.{Stmt, keep, drive, choose, when, pass, then, go, start, stop, fail, reset, after}
 use Rattle.flat.specs.declared.instr.Source.TheVariants.{Lit, Cell, In, Out, Yes, No, Late, Active, Stopped, Failed}
 use Rattle.flat.specs.declared.instr.Unary.TheVariants.{Not, Test}
 use Rattle.flat.specs.declared.instr.Control.TheVariants.{State, Start, Stop, Fail, Reset}
 use Rattle.flat.specs.declared.instr.Instr.{Instr}
-use Rattle.flat.specs.declared.instr.Instr.TheVariants.{End, Push, Convert, Combine, Jump, Unless, Keep, Drive, Set}
+use Rattle.flat.specs.declared.instr.Instr.TheVariants.{Push, Convert, Combine, Jump, Unless, Keep, Drive, Set}
 
 -- How many instructions an expression takes.
 abbrev pub size : Expr → ℕ

@@ -1,5 +1,5 @@
 -- The house words, and what each is there for.
-use Rattle.std.specs.Prelude.{ℕ, List, [], ◌∷◌, pos, codes, Option}
+use Rattle.std.specs.Prelude.{List, [], ◌∷◌, pos, codes, Option}
 use Rattle.flat.specs.declared.instr.Binary.TheVariants.{Add, Sub, Mul, Div, Less, Same}
 use Rattle.language.specs.Basics.{Word, find, or_else}
 use Rattle.language.specs.declared.house.Opener.TheVariants.{Kind, Tact, Const, Cell, In, Out, Proc, State}

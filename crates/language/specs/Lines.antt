@@ -1,5 +1,5 @@
 -- What stands in a line.
-use Rattle.std.specs.Prelude.{ℕ, Bool, true, cond, ◌&&◌, List, [], ◌∷◌, ◌++◌, reverse, ℤ, pos, Some, None, Option, ◌==◌}
+use Rattle.std.specs.Prelude.{ℕ, Bool, cond, List, [], ◌∷◌, ◌++◌, reverse, Some, None, Option, ◌==◌}
 use Rattle.language.specs.Basics.{Word, collect, those, leading}
 use Rattle.language.specs.Named.{Act, Line}
 use Rattle.language.specs.declared.house.Opener.{Opener}

@@ -1,5 +1,5 @@
 -- Expressions, statements and lines by the rows at which their parts begin. Shape is not tested here: where a form is what it should be, these are what the grammar reads (proofs/OnSheets).
-use Rattle.std.specs.Prelude.{ℕ, zero, suc, ◌+◌, ◌-◌, Bool, cond, List, [], ◌∷◌, length, ℤ, pos, Some, None, Option, ◌==◌, nat_lt}
+use Rattle.std.specs.Prelude.{ℕ, zero, suc, ◌+◌, ◌-◌, cond, List, [], ◌∷◌, length, pos, Some, None, Option, ◌==◌, nat_lt}
 use Rattle.text.specs.Sheet.{row_at, next_row}
 use Rattle.text.specs.declared.row.Row.{Row}
 use Rattle.text.specs.declared.row.Row.TheVariants.{Word as WordRow, Number as NumberRow, Items}
@@ -187,7 +187,7 @@ line_of rows at (Some Out) = Line.output (word_at rows (second_row rows at))
 line_of rows at (Some Proc) = Line.process (word_at rows (second_row rows at))
 line_of rows at (Some State) = Line.state (word_at rows (second_row rows at)) (body_at rows at)
 
-abbrev pub line_at : List Row → ℕ → Line
+unfoldable pub line_at : List Row → ℕ → Line
 line_at rows at = line_of rows at (opener_at rows at)
 
 -- The m lines from a row on.

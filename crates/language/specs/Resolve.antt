@@ -1,5 +1,5 @@
 -- From names to numbers. A name that stands for nothing, which no well-formed text has, counts as number 0 of its sort.
-use Rattle.std.specs.Prelude.{ℕ, suc, Bool, true, false, cond, ◌&&◌, ◌||◌, List, [], ◌∷◌, ℤ, pos, is_some, Some, None, Option}
+use Rattle.std.specs.Prelude.{ℕ, suc, Bool, true, false, ◌&&◌, ◌||◌, List, [], ◌∷◌, ℤ, pos, is_some, Some, None, Option}
 use Rattle.language.specs.Basics.{Word, found, find, collect, changed, or_else, otherwise}
 use Rattle.language.specs.Numbers.{word_value, natural}
 use Rattle.language.specs.Tree.{Expr, Stmt}

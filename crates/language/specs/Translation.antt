@@ -1,6 +1,6 @@
 -- What a text is translated to, or why it is refused.
-use Rattle.std.specs.Prelude.{ℕ, suc, ◌+◌, Bool, cond, ◌||◌, List, [], ◌∷◌, length, ℤ, Some, None, Option, ◌==◌, nat_le, nat_lt}
-use Rattle.text.specs.Form.{Form, Forms, none, more, pack}
+use Rattle.std.specs.Prelude.{ℕ, cond, ◌||◌, List, [], ◌∷◌, length, ℤ, Some, None, Option, ◌==◌, nat_le, nat_lt}
+use Rattle.text.specs.Form.{Form}
 use Rattle.text.specs.Reading.{Read, forms, wrong, read_text}
 use Rattle.text.specs.Sheet.{rows_in}
 use Rattle.language.specs.Named.{Line}

@@ -24,6 +24,7 @@ pub fn rank(opener: Opener) -> u32
 }
 
 // The sort of the line at a row; one that opens no line counts as a kind.
+#[tactic(auto, unfolding(crate::specs::OnSheet::line_at))]
 pub fn sort_at(rows: &[Row], at: usize) -> Opener
     ensures { result ≡ sort (line_at rows.now at) }
 {

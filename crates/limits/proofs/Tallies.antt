@@ -43,6 +43,7 @@ sums before l = omega arith
 
 -- The counts over one line more.
 pub tally_more : (before : List Line) (l : Line) → with_line (tally_of before) l ≡ tally_of (l ∷ before)
+unfolding with_line
 tally_more before l =
     let sorts = λ (o : Opener). count_more (is o l) (count (is o) before) in
     λ i. record {
@@ -92,6 +93,7 @@ full_is before (Line.process w) = reached 32 Proc before refl refl
 full_is before (Line.state w b) = capped_leb 16 (count (is State) (leading (is State) before)) refl
 
 pub past_is : (before : List Line) (l : Line) (behind : List Line) → past_with (tally_of before) (with_line (tally_of before) l) l behind ≡ past_limit before l behind
+unfolding with_line
 past_is before l behind =
     let over : ltb 4096 (capped (capped (total instructions before) + capped (instructions l))) ≡ ltb 4096 (total instructions (l ∷ before)) =
     ap (ltb 4096) (sums before l) ∙ capped_leb 4097 (total instructions (l ∷ before)) refl in

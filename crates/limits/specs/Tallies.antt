@@ -28,7 +28,7 @@ abbrev pub counted : Bool → ℕ → ℕ
 counted b n = cond b (capped (n + 1)) n
 
 -- The counts with a line more.
-abbrev pub with_line : Tally → Line → Tally
+unfoldable pub with_line : Tally → Line → Tally
 with_line t l = record {
   kinds = counted (is Kind l) t.kinds;
   tacts = counted (is Tact l) t.tacts;

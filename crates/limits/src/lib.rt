@@ -1,5 +1,6 @@
 // Numbers and counts past their limits, and what a text lacks.
 #![tactic(auto)]
+
 ghost use Rattle.std.specs.Prelude.{◌≡◌};
 ghost use Rattle.language.specs.Basics.{earliest as earliest_of};
 ghost use Rattle.language.specs.Causes.{first_past_limit};

@@ -55,6 +55,7 @@ fn is_body_timely(rows: &[Row], at: usize) -> bool
 }
 
 // Whether the line at a row has a period or a timeout out of range.
+#[tactic(auto, unfolding(language::specs::OnSheet::line_at))]
 pub fn past_range(rows: &[Row], at: usize) -> bool
     ensures { result ≡ past_range (line_at rows.now at) }
 {

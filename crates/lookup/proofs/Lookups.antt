@@ -65,6 +65,7 @@ place_step true v w vs n further else f e =
 -- What the walk over the lines finds is what the list of names has.
 place_found : (o : Opener) (w : Word) (rows : List Row) (m at n : ℕ)
     → place_at o w rows m at n ≡ changed (λ k. n + k) (found w (declared o (lines_at rows at m)))
+unfolding line_at
 place_found o w rows zero at n = refl
 place_found o w rows (suc m) at n =
     rw (declared_more, name_of)
@@ -102,6 +103,7 @@ pub find_more : (w : Word) (rows : List Row) (m at i : ℕ) → i < m
     ≡ cond (is Const (line_at rows at))
     (cond (same (word_at rows (second_row rows at)) w) (Some (word_value (digits_at rows (third_row rows at)))) (find (constants_in (lines_at rows (next_row rows at) (m - (i + 1)))) w))
     (find (constants_in (lines_at rows (next_row rows at) (m - (i + 1)))) w)
+unfolding line_at
 find_more w rows m at i h =
     rw (lines_more rows at m i h, constant_of)
     (find_step (is Const (line_at rows at)) (word_at rows (second_row rows at)) w (word_value (digits_at rows (third_row rows at))) (constants_in (lines_at rows (next_row rows at) (m - (i + 1)))))

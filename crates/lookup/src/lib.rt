@@ -1,5 +1,6 @@
 // What the names of a text stand for, looked up line by line.
 #![tactic(auto)]
+
 ghost use Rattle.std.specs.Prelude.{◌≡◌, Some, None};
 ghost use Rattle.language.specs.Basics.{found, find};
 ghost use Rattle.language.specs.Numbers.{word_value};

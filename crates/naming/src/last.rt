@@ -73,6 +73,7 @@ fn have_next(rows: &[Row], first: usize, count: usize, left: usize) -> bool
 }
 
 // Whether the line at a row has a `next` in its body.
+#[tactic(auto, unfolding(language::specs::OnSheet::line_at))]
 fn line_has_next(rows: &[Row], at: usize) -> bool
     ensures { result ≡ has_next (body (line_at rows.now at)) }
 {

@@ -1,5 +1,5 @@
 -- What a byte gives in each mode, by the classes that matter there: a fact P of what is given.
-use Rattle.std.proofs.Common.{◌≡◌, ℕ, ◌+◌, ◌-◌, Bool, true, false, cond, ◌⊎◌, List, [], ◌∷◌, refl, inl, inr}
+use Rattle.std.proofs.Common.{◌≡◌, ℕ, ◌+◌, Bool, true, false, cond, ◌⊎◌, List, [], ◌∷◌, refl, inl, inr}
 use Rattle.text.specs.Tokens.{spot, halt, line, want, in_word, in_number, name, numeral, Toks, prefix, toks, Out, goes, says, opening, at_line, at_want, at_after, at_ended, longer, at_word, digits, counted, at_number}
 use Rattle.text.specs.Bytes.{complete}
 use Rattle.text.specs.declared.class.Class.{Class}

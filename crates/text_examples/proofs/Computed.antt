@@ -1,6 +1,6 @@
 -- The worked examples, by computation.
 use Rattle.std.proofs.Common.{◌≡◌, List, [], ◌∷◌, ◌++◌, pos, refl, ap, ◌∙◌}
-use Rattle.std.specs.List.{AllByRecursion as All}
+use Rattle.std.specs.List.{AllByRecursion}
 use Rattle.std.specs.Int.{int_wrap}
 use Rattle.hosts.specs.Levels.{sensed}
 use Rattle.flat.specs.Instructions.{decoded}
@@ -9,18 +9,18 @@ use Rattle.language.specs.House.{house}
 use Rattle.language.specs.Translation.{Answer, translated}
 use Rattle.language.specs.Words.{words}
 use Rattle.worked.specs.Guard.{guard}
-use Rattle.worked.specs.Examples.{Seen, scans, fresh, examples}
+use Rattle.worked.specs.Examples.{scans, fresh, examples}
 use Rattle.text_examples.specs.Codes.{and_code}
 use Rattle.text_examples.specs.Texts.{guard_text, and_text}
-use Rattle.text_examples.specs.Examples.{Case, Holds, translate, code_of, seen_scans, text_scans, guard_levels, guard_wanted, and_wanted, value_cases, text_cases, code_cases, cases}
+use Rattle.text_examples.specs.Examples.{Holds, translate, code_of, seen_scans, text_scans, guard_levels, guard_wanted, and_wanted, value_cases, text_cases, code_cases, cases}
 
 -- What holds of each of two lists holds of each of both.
-both : {A : Type 0} (P : A → Type 0) (xs ys : List A) → All P xs → All P ys → All P (xs ++ ys)
+both : {A : Type 0} (P : A → Type 0) (xs ys : List A) → AllByRecursion P xs → AllByRecursion P ys → AllByRecursion P (xs ++ ys)
 both P [] ys h k = k
 both P (x ∷ xs) ys h k = (h.0, both P xs ys h.1 k)
 
 -- The values of the kinds.
-values : All Holds value_cases
+values : AllByRecursion Holds value_cases
 unfolding int_wrap
 values = (refl, (refl, (refl, (refl, (refl, (refl, (refl, (refl, (refl, (refl, tt))))))))))
 
@@ -49,14 +49,14 @@ and_scans : text_scans and_text ((pos 0 ∷ []) ∷ []) ≡ seen_scans and_wante
 and_scans = ap (λ (a : Answer). seen_scans (scans (code_of a) ((pos 0 ∷ []) ∷ []) (fresh (code_of a)))) and_translated ∙ ap seen_scans and_seen
 
 -- Stored codes.
-codes_hold : All Holds (code_cases examples)
+codes_hold : AllByRecursion Holds (code_cases examples)
 unfolding int_wrap sensed decoded every fits
 codes_hold = (refl, (refl, (refl, (refl, (refl, (refl, (refl, (refl, (refl, (refl, (refl, (refl, (refl, (refl, tt))))))))))))))
 
 -- Texts.
-texts_hold : All Holds text_cases
+texts_hold : AllByRecursion Holds text_cases
 unfolding house words int_wrap sensed decoded
 texts_hold = (refl, (refl, (guard_scans, (and_scans, (refl, (refl, (refl, (refl, (refl, (refl, (refl, (refl, (refl, (refl, (refl, (refl, (refl, (refl, (refl, (refl, (refl, tt)))))))))))))))))))))
 
-pub all_hold : All Holds cases
+pub all_hold : AllByRecursion Holds cases
 all_hold = both Holds value_cases (text_cases ++ code_cases examples) values (both Holds text_cases (code_cases examples) texts_hold codes_hold)

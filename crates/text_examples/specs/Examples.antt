@@ -1,6 +1,6 @@
 -- Worked examples, in one list: values of the kinds, texts, and stored codes.
 use Rattle.std.specs.Prelude.{◌≡◌, ℕ, Bool, true, List, [], ◌∷◌, ◌++◌, map, length, ℤ, pos, Option}
-use Rattle.std.specs.List.{AllByRecursion as All}
+use Rattle.std.specs.List.{AllByRecursion}
 use Rattle.flat.specs.Tests.{fits}
 use Rattle.kinds.specs.Worked.{worked}
 use Rattle.language.specs.Translation.{Answer, refused, translated, translation}
@@ -83,4 +83,4 @@ Holds c = c.found ≡ c.wanted
 
 -- Each case does.
 abbrev pub WorkedExamples : Type 0
-WorkedExamples = All Holds cases
+WorkedExamples = AllByRecursion Holds cases

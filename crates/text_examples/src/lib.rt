@@ -1,5 +1,6 @@
 // Worked examples of the definitions, computed by the prover.
 #![tactic(auto)]
+
 ghost use Rattle.text_examples.specs.Examples.{WorkedExamples};
 
 // Each worked example comes out as it should.

@@ -1,5 +1,5 @@
 -- A text that was read has no more lines than bytes.
-use Rattle.std.proofs.Common.{◌≡◌, ℕ, suc, ◌+◌, ◌≤◌, Bool, true, false, cond, ◌||◌, eqb, ltb, leb, List, [], ◌∷◌, ◌++◌, length, Ok, Err, Result, ap, arith, length-append, ltb-false}
+use Rattle.std.proofs.Common.{◌≡◌, ℕ, ◌≤◌, Bool, true, false, cond, ◌||◌, eqb, ltb, leb, List, [], ◌∷◌, length, Ok, Err, Result, ap, arith, length-append, ltb-false}
 use Rattle.std.proofs.lemmas.Bool.{or_parts}
 use Rattle.text.specs.Form.{Form, Forms, word, number, form, none, more}
 use Rattle.text.specs.Page.{page_of, laid_out}

@@ -69,6 +69,7 @@ kind_later (process w) ls e = refl
 kind_later (state w b) ls e = refl
 
 pub kind_on : (rows : List Row) (at k i : ℕ) → i < k → true ≡ is Kind (line_at rows at) → kind_number (lines_at rows at (k - i)) ≡ kind_at rows at
+unfolding line_at
 kind_on rows at k i h e = ap kind_number (lines_more rows at k i h) ∙ kind_first rows at (opener_at rows at) _ e
 
 pub kind_off : (rows : List Row) (at next k i : ℕ) → i < k → next ≡ next_row rows at → false ≡ is Kind (line_at rows at)
@@ -98,6 +99,7 @@ period_later (process w) ls e = refl
 period_later (state w b) ls e = refl
 
 pub period_on : (rows : List Row) (at k i : ℕ) → i < k → true ≡ is Tact (line_at rows at) → period (lines_at rows at (k - i)) ≡ word_value (digits_at rows (second_row rows at))
+unfolding line_at
 period_on rows at k i h e = ap period (lines_more rows at k i h) ∙ period_first rows at (opener_at rows at) _ e
 
 pub period_off : (rows : List Row) (at next k i : ℕ) → i < k → next ≡ next_row rows at → false ≡ is Tact (line_at rows at)

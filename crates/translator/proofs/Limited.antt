@@ -1,15 +1,14 @@
 -- Lines that pass no limit take at most 4,096 instructions in all.
-use Rattle.std.proofs.Common.{◌≡◌, ℕ, suc, ◌+◌, ◌≤◌, Bool, true, false, cond, ◌||◌, eqb, ltb, List, [], ◌∷◌, length, Some, None, Option, sym, refl, ap, ◌∙◌, arith, ltb-false}
+use Rattle.std.proofs.Common.{◌≡◌, ℕ, suc, ◌+◌, ◌≤◌, Bool, true, false, cond, ◌||◌, ltb, List, [], ◌∷◌, Some, None, Option, refl, arith, ltb-false}
 use Rattle.std.proofs.lemmas.Bool.{or_parts}
 use Rattle.language.specs.Basics.{Word, total, leading, first_where}
 use Rattle.language.specs.Causes.{instructions, past_limit, past_range, too_many, stateless}
-use Rattle.language.specs.Compile.{size_of}
-use Rattle.language.specs.Lines.{is, declared, body, processes, states_behind}
+use Rattle.language.specs.Lines.{is, declared, processes, states_behind}
 use Rattle.language.specs.Named.{Line}
 use Rattle.language.specs.Program.{size_of_bodies, size_of_all}
-use Rattle.language.specs.Resolve.{Names, bodies, resolved, program, all_names, stmt}
+use Rattle.language.specs.Resolve.{Names, bodies, resolved, program, all_names}
 use Rattle.language.proofs.Sizes.{act_sizes}
-use Rattle.language.specs.declared.house.Opener.TheVariants.{Proc, State}
+use Rattle.language.specs.declared.house.Opener.TheVariants.{State}
 
 -- No place is found: the test fails here, and further on no place is found.
 not_here : {A : Type 0} (b : Bool) (n : A) (o : Option A) → cond b (Some n) o ≡ None → (b ≡ false) × (o ≡ None)

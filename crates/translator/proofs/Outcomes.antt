@@ -1,7 +1,7 @@
 -- What translate answers, by what reading and checking found.
-use Rattle.std.proofs.Common.{◌≡◌, ℕ, ◌<◌, ◌≤◌, Bool, true, false, cond, ◌||◌, eqb, ltb, leb, List, [], ◌∷◌, ◌++◌, length, drop, ℤ, Some, None, Ok, Err, Option, Result, sym, refl, ap, ◌∙◌, arith, le-ltb, lt-ltb}
+use Rattle.std.proofs.Common.{◌≡◌, ℕ, ◌<◌, ◌≤◌, Bool, true, false, cond, ◌||◌, eqb, ltb, leb, List, [], ◌∷◌, length, ℤ, Some, None, Ok, Err, Option, Result, sym, refl, ap, ◌∙◌, arith, le-ltb, lt-ltb}
 use Rattle.text.specs.Form.{Form}
-use Rattle.text.specs.Page.{page_of, laid_out, Holds}
+use Rattle.text.specs.Page.{page_of, laid_out}
 use Rattle.text.specs.Reading.{Read, forms, wrong, read_text}
 use Rattle.text.specs.Sheet.{forms_at, rows_in}
 use Rattle.text.specs.declared.row.Row.{Row}
@@ -18,7 +18,7 @@ use Rattle.language.specs.Translation.{Answer, translation, judged, causes, name
 use Rattle.language.specs.Words.{words}
 use Rattle.translator.proofs.Limited.{small_program}
 use Rattle.checks.specs.Refusals.{refusal_number, refusal_line}
-use Rattle.translator.specs.Outcome.{Told, Outcome, outcome, unread, wrote, refused}
+use Rattle.translator.specs.Outcome.{Outcome, outcome, unread, refused}
 
 -- A refused outcome.
 abbrev pub turned_away : ℕ → ℕ → List ℤ → Outcome

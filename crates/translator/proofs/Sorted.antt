@@ -22,11 +22,12 @@ body_of rows at (Some Proc) e = absurd (clash e)
 body_of rows at (Some State) e = refl
 
 pub body_there : (rows : List Row) (at : ℕ) → is State (line_at rows at) ≡ true → body (line_at rows at) ≡ body_at rows at
+unfolding line_at
 body_there rows at e = body_of rows at (opener_at rows at) e
 
-pub body_acts : (rows : List Row) (at from items k : ℕ) → true ≡ is State (line_at rows at) → from ≡ third_row rows at → items ≡ count_at rows at → k ≡ items - 2
-    → body (line_at rows at) ≡ acts_of (act_at 12 rows) rows from k
-body_acts rows at from items k e f g h = let b = body_there rows at (sym e) in rw (h, g, f) b
+pub body_acts : (rows : List Row) (at from items k d : ℕ) → true ≡ is State (line_at rows at) → from ≡ third_row rows at → items ≡ count_at rows at → k ≡ items - 2 → d ≡ 12
+    → body (line_at rows at) ≡ acts_of (act_at d rows) rows from k
+body_acts rows at from items k d e f g h deep = let b = body_there rows at (sym e) in rw (deep, h, g, f) b
 
 no_body_of : (rows : List Row) (at : ℕ) (o : Option Opener) → is State (line_of rows at o) ≡ false → body (line_of rows at o) ≡ pass
 no_body_of rows at None e = refl
@@ -40,6 +41,7 @@ no_body_of rows at (Some Proc) e = refl
 no_body_of rows at (Some State) e = absurd (clash (sym e))
 
 pub no_body : (rows : List Row) (at : ℕ) → is State (line_at rows at) ≡ false → body (line_at rows at) ≡ pass
+unfolding line_at
 no_body rows at e = no_body_of rows at (opener_at rows at) e
 
 -- How many states begin a list of lines.

@@ -1,5 +1,6 @@
 // From a text to flat code.
 #![tactic(auto)]
+
 mod emit;
 mod encode;
 mod expression;

@@ -1,5 +1,5 @@
 // The instructions of statements.
-ghost use Rattle.std.specs.Prelude.{◌+◌, ◌*◌, ◌≤◌, length};
+ghost use Rattle.std.specs.Prelude.{◌≡◌, ◌+◌, ◌*◌, ◌≤◌, length};
 ghost use Rattle.language.specs.Lines.{body};
 ghost use Rattle.language.specs.Named.{Act};
 ghost use Rattle.language.specs.OnSheet.{term_at, act_at, act_of, acts_of, change_of, digits_at, line_at};
@@ -194,6 +194,13 @@ fn emit_act(
     emit_parts(rows, site, view, left - 1, code, p)
 }
 
+// How deep the forms of a body nest at most.
+fn deepest() -> usize
+    ensures { result ≡ 12 }
+{
+    12
+}
+
 // Puts the body of the line at a row; what is no state has none.
 pub(crate) fn emit_body(
     rows: &[Row],
@@ -212,5 +219,5 @@ pub(crate) fn emit_body(
     }
     let from = third_row(rows, at);
     let count = items_at(rows, at).saturating_sub(2);
-    emit_acts(rows, site, from, count, 12, code, p)
+    emit_acts(rows, site, from, count, deepest(), code, p)
 }

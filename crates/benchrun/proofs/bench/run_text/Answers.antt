@@ -7,11 +7,11 @@ use Rattle.lines.specs.Lines.{refusal_line}
 use Rattle.playback.specs.Replay.{Ran}
 use Rattle.checks.specs.Refusals.{refusal_number, refusal_line as refusal-place}
 use Rattle.benchrun.specs.Bench.{Answered, no_code, ran}
-use Rattle.benchrun.proofs.Outcomes.{Written, wrote_words, told_refusal}
+use Rattle.benchrun.proofs.Outcomes.{wrote_words, told_refusal}
 use Rattle.benchrun.proofs.bench.run_text.Goals as goal
 
-pub slice-bounds-run-code-end : goal.slice-bounds-run-code-end
-slice-bounds-run-code-end c =
+pub slice_bounds-run_code-end : goal.slice_bounds-run_code-end
+slice_bounds-run_code-end c =
     let h : c.in-Ok.n ≤ length c.translate.new.code = (wrote_words (translation c.args.text.now (length c.args.sheet.now) (length c.args.code.now)) c.args.code.now c.translate.new.code c.in-Ok.n c.in-Ok.field-0-1 c.in-Ok.ensures).within in
     search rules
 
@@ -21,7 +21,7 @@ returns-in-Ok c =
     let w = wrote_words t c.args.code.now c.translate.new.code c.in-Ok.n c.in-Ok.field-0-1 c.in-Ok.ensures in
     let all : c.in-Ok.n - 0 ≡ c.in-Ok.n = omega arith in
     let whole = ap (λ n. take n c.translate.new.code) all in
-    IfOk-weaker _ _ _ (λ out r. ran w.words c.in-Ok.field-0-1 w.translation (vec_items out) (subst (λ ws. Ran ws c.args.tape.now (vec_items out)) (whole ∙ w.front) r)) c.run-code.ensures
+    IfOk-weaker _ _ _ (λ out r. ran w.words c.in-Ok.field-0-1 w.translation (vec_items out) (subst (λ ws. Ran ws c.args.tape.now (vec_items out)) (whole ∙ w.front) r)) c.run_code.ensures
 
 pub returns-in-Err : goal.returns-in-Err
 returns-in-Err c =

@@ -1,6 +1,6 @@
 -- The first group of house words that has the word.
 use Rattle.std.proofs.Common.{◌∙◌}
-use Rattle.language.specs.House.{house, expression_word, statement_word}
+use Rattle.language.specs.House.{expression_word, statement_word}
 use Rattle.language.proofs.Ways.{first_way, second_way}
 use Rattle.language.proofs.house.body_word.Goals as goal
 

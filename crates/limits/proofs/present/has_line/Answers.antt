@@ -4,10 +4,10 @@ use Rattle.language.specs.Lines.{is}
 use Rattle.limits.proofs.Lines.{any_here, any_further}
 use Rattle.limits.proofs.present.has_line.Goals as goal
 
-pub returns-then-is-line : goal.returns-then-is-line
-returns-then-is-line c =
-    any_here (is c.args.sort) c.args.rows.now c.loop.at c.args.lines c.loop.counter (omega arith) c.if-is-line.ensures ∙ c.loop.invariant
+pub returns-then-is_line : goal.returns-then-is_line
+returns-then-is_line c =
+    any_here (is c.args.sort) c.args.rows.now c.loop.at c.args.lines c.loop.counter (omega arith) c.if-is_line.ensures ∙ c.loop.invariant
 
 pub loop-preserved : goal.loop-preserved
 loop-preserved c =
-    any_further (is c.args.sort) c.args.rows.now c.loop.at _ c.args.lines c.loop.counter (omega arith) c.next-row-at.ensures c.if-is-line.ensures ∙ c.loop.invariant
+    any_further (is c.args.sort) c.args.rows.now c.loop.at _ c.args.lines c.loop.counter (omega arith) c.next_row-at.ensures c.if-is_line.ensures ∙ c.loop.invariant

@@ -4,17 +4,17 @@ use Rattle.language.specs.OnSheet.{act_at, acts_of}
 use Rattle.language.specs.Sizes.{act_size, capped}
 use Rattle.measure.proofs.size.+act_size_act_view_size_acts_size.Given as goal
 
-abbrev pub decreases-act-size : goal.decreases-act-size
-decreases-act-size l = 3 * l.left
+abbrev pub decreases-act_size : goal.decreases-act_size
+decreases-act_size l = 3 * l.left
 
-abbrev pub decreases-acts-size : goal.decreases-acts-size
-decreases-acts-size l = 3 * l.left + 1
+abbrev pub decreases-acts_size : goal.decreases-acts_size
+decreases-acts_size l = 3 * l.left + 1
 
-abbrev pub decreases-act-view-size : goal.decreases-act-view-size
-decreases-act-view-size l = 3 * l.left + 2
+abbrev pub decreases-act_view_size : goal.decreases-act_view_size
+decreases-act_view_size l = 3 * l.left + 2
 
-abbrev pub invariant-acts-size-loop : goal.invariant-acts-size-loop
-invariant-acts-size-loop l =
+abbrev pub invariant-acts_size-loop : goal.invariant-acts_size-loop
+invariant-acts_size-loop l =
     (l.size ≤ 4097)
     × (capped (l.size + act_size (acts_of (act_at l.left l.rows) l.rows l.at (l.count - l.counter)))
     ≡ capped (act_size (acts_of (act_at l.left l.rows) l.rows l.first l.count)))

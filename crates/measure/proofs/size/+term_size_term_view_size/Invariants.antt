@@ -2,8 +2,8 @@
 use Rattle.std.proofs.Common.{◌+◌, ◌*◌}
 use Rattle.measure.proofs.size.+term_size_term_view_size.Given as goal
 
-abbrev pub decreases-term-size : goal.decreases-term-size
-decreases-term-size l = 2 * l.left
+abbrev pub decreases-term_size : goal.decreases-term_size
+decreases-term_size l = 2 * l.left
 
-abbrev pub decreases-term-view-size : goal.decreases-term-view-size
-decreases-term-view-size l = 2 * l.left + 1
+abbrev pub decreases-term_view_size : goal.decreases-term_view_size
+decreases-term_view_size l = 2 * l.left + 1

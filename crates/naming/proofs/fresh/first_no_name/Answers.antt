@@ -4,16 +4,16 @@ use Rattle.naming.proofs.Walks.{walk_starts, walk_here, walk_further, walk_ends,
 use Rattle.naming.proofs.fresh.first_no_name.Goals as goal
 
 pub loop-i-init : goal.loop-i-init
-loop-i-init c = walk_starts c.first-spot-spot.ensures
+loop-i-init c = walk_starts c.first_spot-spot.ensures
 
-pub returns-then-is-no-name : goal.returns-then-is-no-name
-returns-then-is-no-name c = walk_here c.loop-i.invariant c.loop-i-test.true c.if-is-no-name.ensures c.line-number.ensures
+pub returns-then-is_no_name : goal.returns-then-is_no_name
+returns-then-is_no_name c = walk_here c.loop-i.invariant c.loop-i-test.true c.if-is_no_name.ensures c.line_number.ensures
 
-pub next-spot-spot-requires : goal.next-spot-spot-requires
-next-spot-spot-requires c = omega (arith, walk_few c.loop-i.invariant)
+pub next_spot-spot-requires : goal.next_spot-spot-requires
+next_spot-spot-requires c = omega (arith, walk_few c.loop-i.invariant)
 
 pub loop-i-preserved : goal.loop-i-preserved
-loop-i-preserved c = walk_further c.loop-i.invariant c.loop-i-test.true c.if-is-no-name.ensures c.next-spot-spot.ensures
+loop-i-preserved c = walk_further c.loop-i.invariant c.loop-i-test.true c.if-is_no_name.ensures c.next_spot-spot.ensures
 
 pub returns : goal.returns
 returns c = walk_ends c.loop-i.invariant c.loop-i-test.false

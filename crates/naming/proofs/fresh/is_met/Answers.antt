@@ -4,8 +4,8 @@ use Rattle.naming.specs.Rivals.{takes_up}
 use Rattle.naming.proofs.Rivals.{any_more}
 use Rattle.naming.proofs.fresh.is_met.Goals as goal
 
-pub returns-then-takes-up : goal.returns-then-takes-up
-returns-then-takes-up c =
+pub returns-then-takes_up : goal.returns-then-takes_up
+returns-then-takes_up c =
     let e = any_more (takes_up c.args.states c.args.w.now) c.args.rows.now c.loop.at c.args.count c.loop.counter c.loop-test.true in
     search rules
 

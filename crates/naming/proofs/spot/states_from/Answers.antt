@@ -5,8 +5,8 @@ use Rattle.language.specs.declared.house.Opener.TheVariants.{State}
 use Rattle.naming.proofs.Spots.{leading_more}
 use Rattle.naming.proofs.spot.states_from.Goals as goal
 
-pub returns-then-not-is-line : goal.returns-then-not-is-line
-returns-then-not-is-line c =
+pub returns-then-not-is_line : goal.returns-then-not-is_line
+returns-then-not-is_line c =
     let e = leading_more (is State) c.args.rows.now c.loop-i.at c.args.lines c.loop-i.i c.loop-i-test.true in
     search rules
 

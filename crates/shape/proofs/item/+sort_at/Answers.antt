@@ -7,11 +7,11 @@ use Rattle.shape.proofs.item.+sort_at.Goals as goal
 
 pub loop-init : goal.loop-init
 loop-init t c =
-    items_begin (sort_in (c.args.left - 1) c.args.rows.now) c.args.rows.now _ c.in-Items.count form_start c.inner-row-part.ensures c.form-start-awaited.ensures (row_sorted c.args.left _ c.args.at (omega arith) c.in-Items.ensures)
+    items_begin (sort_in (c.args.left - 1) c.args.rows.now) c.args.rows.now _ c.in-Items.count form_start c.inner_row-part.ensures c.form_start-awaited.ensures (row_sorted c.args.left _ c.args.at (omega arith) c.in-Items.ensures)
 
 pub loop-preserved : goal.loop-preserved
 loop-preserved t c =
-    items_turn (sort_in (c.args.left - 1) c.args.rows.now) c.args.rows.now c.loop.part _ c.loop.counter c.loop.awaited (omega arith) c.next-row-part.ensures c.sort-at.ensures c.after-awaited.ensures c.loop.invariant
+    items_turn (sort_in (c.args.left - 1) c.args.rows.now) c.args.rows.now c.loop.part _ c.loop.counter c.loop.awaited (omega arith) c.next_row-part.ensures c.sort_at.ensures c.after-awaited.ensures c.loop.invariant
 
 pub returns-in-Word : goal.returns-in-Word
 returns-in-Word t c = ap Word c.house_word.ensures ∙ row_sorted c.args.left _ c.args.at (omega arith) c.in-Word.ensures

@@ -8,11 +8,11 @@ loop-i-init c = lines_begin c.args.rows.now c.args.lines
 
 pub loop-i-preserved : goal.loop-i-preserved
 loop-i-preserved c =
-    lines-turn c.args.rows.now c.args.lines c.loop-i.at c.loop-i.i c.loop-i.place c.loop-i.invariant (omega arith) c.line-at.ensures c.next-row-at.ensures c.in-Some.ensures
+    lines-turn c.args.rows.now c.args.lines c.loop-i.at c.loop-i.i c.loop-i.place c.loop-i.invariant (omega arith) c.line_at.ensures c.next_row-at.ensures c.in-Some.ensures
 
 pub returns-in-None : goal.returns-in-None
 returns-in-None c = record {
-  first = lines-stop c.args.rows.now c.args.lines c.loop-i.at c.loop-i.i c.loop-i.place c.loop-i.invariant (omega arith) c.line-at.ensures c.in-None.ensures;
+  first = lines-stop c.args.rows.now c.args.lines c.loop-i.at c.loop-i.i c.loop-i.place c.loop-i.invariant (omega arith) c.line_at.ensures c.in-None.ensures;
   within = omega arith;
 }
 

@@ -6,20 +6,20 @@ use Rattle.translator.proofs.emit.write_code.Goals as goal
 pub measure-processes-requires : goal.measure-processes-requires
 measure-processes-requires c = record { small = small_size (lines_at c.args.rows.now 0 c.args.lines) c.requires.small }
 
-pub overflow-mul-base : goal.overflow-mul-base
-overflow-mul-base c = record { fits = omega arith }
+pub overflow_mul-base : goal.overflow_mul-base
+overflow_mul-base c = record { fits = omega arith }
 
-pub overflow-add-base : goal.overflow-add-base
-overflow-add-base c = record { fits = omega arith }
+pub overflow_add-base : goal.overflow_add-base
+overflow_add-base c = record { fits = omega arith }
 
-pub overflow-mul-end : goal.overflow-mul-end
-overflow-mul-end c = let h = small_size (lines_at c.args.rows.now 0 c.args.lines) c.requires.small in record { fits = omega arith }
+pub overflow_mul-end : goal.overflow_mul-end
+overflow_mul-end c = let h = small_size (lines_at c.args.rows.now 0 c.args.lines) c.requires.small in record { fits = omega arith }
 
-pub overflow-add-end : goal.overflow-add-end
-overflow-add-end c = let h = small_size (lines_at c.args.rows.now 0 c.args.lines) c.requires.small in record { fits = omega arith }
+pub overflow_add-end : goal.overflow_add-end
+overflow_add-end c = let h = small_size (lines_at c.args.rows.now 0 c.args.lines) c.requires.small in record { fits = omega arith }
 
-pub write-front-requires : goal.write-front-requires
-write-front-requires c =
+pub write_front-requires : goal.write_front-requires
+write_front-requires c =
     let ls = lines_at c.args.rows.now 0 c.args.lines in
     let h = small_size ls c.requires.small in
     let f = parts_fit ls _ _ _ c.measure-processes.ensures.count c.measure-processes.ensures.size c.requires.room in
@@ -33,18 +33,18 @@ write-front-requires c =
       room = omega arith;
     }
 
-pub slice-bounds-emit-processes-end : goal.slice-bounds-emit-processes-end
-slice-bounds-emit-processes-end c =
+pub slice_bounds-emit_processes-end : goal.slice_bounds-emit_processes-end
+slice_bounds-emit_processes-end c =
     let f = parts_fit (lines_at c.args.rows.now 0 c.args.lines) _ _ _ c.measure-processes.ensures.count c.measure-processes.ensures.size c.requires.room in
     omega arith
 
-pub emit-processes-steps-requires : goal.emit-processes-steps-requires
-emit-processes-steps-requires c =
+pub emit_processes-steps-requires : goal.emit_processes-steps-requires
+emit_processes-steps-requires c =
     let ls = lines_at c.args.rows.now 0 c.args.lines in
     let h = small_size ls c.requires.small in
     let f = parts_fit ls _ _ _ c.measure-processes.ensures.count c.measure-processes.ensures.size c.requires.room in
     let e = c.measure-processes.ensures.size in
-    let l = part_length (7 + 17 * c.measure-processes.result.0) (7 + 17 * c.measure-processes.result.0 + 2 * c.measure-processes.result.1 - (7 + 17 * c.measure-processes.result.0)) c.write-front.new.code (omega arith) in
+    let l = part_length (7 + 17 * c.measure-processes.result.0) (7 + 17 * c.measure-processes.result.0 + 2 * c.measure-processes.result.1 - (7 + 17 * c.measure-processes.result.0)) c.write_front.new.code (omega arith) in
     record { few = c.requires.few; short = omega arith; room = omega arith }
 
 pub returns : goal.returns
@@ -55,6 +55,6 @@ returns c =
     let f = c.measure-processes.ensures.count in
     record {
       count = omega arith;
-      steps = c.emit-processes-steps.ensures.bound;
-      wrote = all_written ls _ _ c.args.code.now c.write-front.new.code c.emit-processes-steps.new.code (omega arith) (omega arith) c.requires.room c.write-front.ensures c.emit-processes-steps.ensures.wrote;
+      steps = c.emit_processes-steps.ensures.bound;
+      wrote = all_written ls _ _ c.args.code.now c.write_front.new.code c.emit_processes-steps.new.code (omega arith) (omega arith) c.requires.room c.write_front.ensures c.emit_processes-steps.ensures.wrote;
     }

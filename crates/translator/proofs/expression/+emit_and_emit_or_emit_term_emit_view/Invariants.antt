@@ -1,14 +1,14 @@
 use Rattle.std.proofs.Common.{◌+◌, ◌*◌}
 use Rattle.translator.proofs.expression.+emit_and_emit_or_emit_term_emit_view.Given as goal
 
-abbrev pub decreases-emit-and : goal.decreases-emit-and
-decreases-emit-and l = 3 * l.left + 1
+abbrev pub decreases-emit_and : goal.decreases-emit_and
+decreases-emit_and l = 3 * l.left + 1
 
-abbrev pub decreases-emit-or : goal.decreases-emit-or
-decreases-emit-or l = 3 * l.left + 1
+abbrev pub decreases-emit_or : goal.decreases-emit_or
+decreases-emit_or l = 3 * l.left + 1
 
-abbrev pub decreases-emit-term : goal.decreases-emit-term
-decreases-emit-term l = 3 * l.left
+abbrev pub decreases-emit_term : goal.decreases-emit_term
+decreases-emit_term l = 3 * l.left
 
-abbrev pub decreases-emit-view : goal.decreases-emit-view
-decreases-emit-view l = 3 * l.left + 2
+abbrev pub decreases-emit_view : goal.decreases-emit_view
+decreases-emit_view l = 3 * l.left + 2

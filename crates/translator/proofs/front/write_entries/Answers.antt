@@ -12,11 +12,11 @@ use Rattle.translator.proofs.front.write_entries.Goals.{then-i-states, else-i-st
 pub loop-i-init : goal.loop-i-init
 loop-i-init c = rw sub-zero (entries_from _ _ _ _)
 
-pub entry-word-requires : goal.entry-word-requires
-entry-word-requires c = omega arith
+pub entry_word-requires : goal.entry_word-requires
+entry_word-requires c = omega arith
 
-pub overflow-add-place-then-i-states : goal.overflow-add-place-then-i-states
-overflow-add-place-then-i-states c =
+pub overflow_add-place-then-i-states : goal.overflow_add-place-then-i-states
+overflow_add-place-then-i-states c =
     let h = ap states_size (lines_more c.args.rows.now c.loop-i.at c.args.states c.loop-i.i c.if-i-states.true) in
     record { fits = omega arith }
 
@@ -30,7 +30,7 @@ loop-i-preserved c =
           let h = ap states_size e in
           let n : c.if-i-states.place ≡ c.loop-i.place + (act_size (body (line_at c.args.rows.now c.loop-i.at)) + 1) = omega arith in
           let v = r ∙ ap (λ b. cond b (pos c.loop-i.place) (pos 0)) (lt-ltb c.loop-i.i c.args.states w.if-i-states.true) in
-          rw (w.at-is, w.next-row-at.ensures)
+          rw (w.at-is, w.next_row-at.ensures)
           (entries_more _ _ _ _ _ _ _ _ _ _ _ _ c.loop-i.invariant e c.loop-i-test.true n (ap (set c.loop-i.code (c.args.w + c.loop-i.i)) v))
       | else-i-states w ↦
           let e = lines_none c.args.rows.now c.loop-i.at c.args.states c.loop-i.i w.if-i-states.false in

@@ -9,4 +9,4 @@ pub returns : goal.returns
 returns c =
     let n = entries_length (lines_at c.args.rows.now c.args.first c.args.states) c.args.p ∙ lines_length c.args.rows.now c.args.first c.args.states in
     let k : c.args.states < 2 ^ 31 = omega arith in
-    rw n (rw (to_z_pos w32 k) at c.write-entries.ensures)
+    rw n (rw (to_z_pos w32 k) at c.write_entries.ensures)

@@ -8,8 +8,8 @@ use Rattle.translator.proofs.process.emit_states.Goals as goal
 pub loop-here-init : goal.loop-here-init
 loop-here-init c = rw sub-zero (states_from _ _ _ _ _)
 
-pub emit-body-end-requires : goal.emit-body-end-requires
-emit-body-end-requires c =
+pub emit_body-end-requires : goal.emit_body-end-requires
+emit_body-end-requires c =
     let h = ap states_size (lines_more c.args.rows.now c.loop-here.at c.args.states c.loop-here.here c.loop-here-test.true) in
     search rules
 
@@ -21,8 +21,8 @@ put-next-requires c =
 pub loop-here-preserved : goal.loop-here-preserved
 loop-here-preserved c =
     let h = lines_more c.args.rows.now c.loop-here.at c.args.states c.loop-here.here c.loop-here-test.true in
-    rw c.next-row-at.ensures
-    (states_more _ _ _ _ _ _ _ _ _ _ _ _ _ _ _ _ c.emit-body-end.result c.loop-here.invariant h c.emit-body-end.ensures c.put-next.ensures.next c.put-next.ensures.wrote c.max-most.ensures)
+    rw c.next_row-at.ensures
+    (states_more _ _ _ _ _ _ _ _ _ _ _ _ _ _ _ _ c.emit_body-end.result c.loop-here.invariant h c.emit_body-end.ensures c.put-next.ensures.next c.put-next.ensures.wrote c.max-most.ensures)
 
 pub returns : goal.returns
 returns c =

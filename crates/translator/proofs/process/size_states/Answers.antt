@@ -7,15 +7,15 @@ use Rattle.translator.proofs.process.size_states.Goals as goal
 pub loop-i-init : goal.loop-i-init
 loop-i-init c = rw (zero-add, sub-zero)
 
-pub overflow-add-size-in-loop-i : goal.overflow-add-size-in-loop-i
-overflow-add-size-in-loop-i c =
-    let h = ap states_size (lines_more c.args.rows.now c.loop-i.at c.args.states c.loop-i.-i c.loop-i-test.true) in
+pub overflow_add-size-in-loop-i : goal.overflow_add-size-in-loop-i
+overflow_add-size-in-loop-i c =
+    let h = ap states_size (lines_more c.args.rows.now c.loop-i.at c.args.states c.loop-i._i c.loop-i-test.true) in
     search rules
 
 pub loop-i-preserved : goal.loop-i-preserved
 loop-i-preserved c =
-    let h = ap states_size (lines_more c.args.rows.now c.loop-i.at c.args.states c.loop-i.-i c.loop-i-test.true) in
-    rw c.next-row-at.ensures (omega arith)
+    let h = ap states_size (lines_more c.args.rows.now c.loop-i.at c.args.states c.loop-i._i c.loop-i-test.true) in
+    rw c.next_row-at.ensures (omega arith)
 
 pub returns : goal.returns
-returns c = let h = ap states_size (lines_none c.args.rows.now c.loop-i.at c.args.states c.loop-i.-i (omega arith)) in omega arith
+returns c = let h = ap states_size (lines_none c.args.rows.now c.loop-i.at c.args.states c.loop-i._i (omega arith)) in omega arith

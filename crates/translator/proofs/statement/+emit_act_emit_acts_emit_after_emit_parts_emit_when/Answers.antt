@@ -7,38 +7,38 @@ use Rattle.language.proofs.Depth.{acts_more, acts_none}
 use Rattle.translator.proofs.Going.{going_from, going_more, going_all}
 use Rattle.translator.proofs.statement.+emit_act_emit_acts_emit_after_emit_parts_emit_when.Goals as goal
 
-pub emit-act-emit-parts-requires : goal.emit-act-emit-parts-requires
-emit-act-emit-parts-requires t c =
-    let h = ap act_size (act_step c.args.left c.args.rows.now c.args.at c.act-view-view.result c.if-left-eq0.false c.act-view-view.ensures) in
+pub emit_act-emit_parts-requires : goal.emit_act-emit_parts-requires
+emit_act-emit_parts-requires t c =
+    let h = ap act_size (act_step c.args.left c.args.rows.now c.args.at c.act_view-view.result c.if-left-eq0.false c.act_view-view.ensures) in
     search rules
 
-pub emit-act-returns : goal.emit-act-returns
-emit-act-returns t c =
-    let h = act_step c.args.left c.args.rows.now c.args.at c.act-view-view.result c.if-left-eq0.false c.act-view-view.ensures in
-    rw h c.emit-parts.ensures
+pub emit_act-returns : goal.emit_act-returns
+emit_act-returns t c =
+    let h = act_step c.args.left c.args.rows.now c.args.at c.act_view-view.result c.if-left-eq0.false c.act_view-view.ensures in
+    rw h c.emit_parts.ensures
 
-pub emit-acts-emit-act-behind-requires : goal.emit-acts-emit-act-behind-requires
-emit-acts-emit-act-behind-requires t c =
-    let h = ap act_size (acts_more (act_at c.args.left c.args.rows.now) c.args.rows.now c.loop-i.at c.args.count c.loop-i.-i c.loop-i-test.true) in
+pub emit_acts-emit_act-behind-requires : goal.emit_acts-emit_act-behind-requires
+emit_acts-emit_act-behind-requires t c =
+    let h = ap act_size (acts_more (act_at c.args.left c.args.rows.now) c.args.rows.now c.loop-i.at c.args.count c.loop-i._i c.loop-i-test.true) in
     search rules
 
-pub emit-acts-overflow-add-most : goal.emit-acts-overflow-add-most
-emit-acts-overflow-add-most t c =
-    let h = ap act_size (acts_more (act_at c.args.left c.args.rows.now) c.args.rows.now c.loop-i.at c.args.count c.loop-i.-i c.loop-i-test.true) in
+pub emit_acts-overflow_add-most : goal.emit_acts-overflow_add-most
+emit_acts-overflow_add-most t c =
+    let h = ap act_size (acts_more (act_at c.args.left c.args.rows.now) c.args.rows.now c.loop-i.at c.args.count c.loop-i._i c.loop-i-test.true) in
     search rules
 
-pub emit-acts-loop-i-init : goal.emit-acts-loop-i-init
-emit-acts-loop-i-init t c = rw sub-zero (going_from _ _ _ _ _)
+pub emit_acts-loop-i-init : goal.emit_acts-loop-i-init
+emit_acts-loop-i-init t c = rw sub-zero (going_from _ _ _ _ _)
 
-pub emit-acts-loop-i-preserved : goal.emit-acts-loop-i-preserved
-emit-acts-loop-i-preserved t c =
-    let h = acts_more (act_at c.args.left c.args.rows.now) c.args.rows.now c.loop-i.at c.args.count c.loop-i.-i c.loop-i-test.true in
-    rw c.next-row-at.ensures (going_more _ _ _ _ _ _ _ _ _ _ _ _ c.emit-act-behind.result c.loop-i.invariant h c.emit-act-behind.ensures)
+pub emit_acts-loop-i-preserved : goal.emit_acts-loop-i-preserved
+emit_acts-loop-i-preserved t c =
+    let h = acts_more (act_at c.args.left c.args.rows.now) c.args.rows.now c.loop-i.at c.args.count c.loop-i._i c.loop-i-test.true in
+    rw c.next_row-at.ensures (going_more _ _ _ _ _ _ _ _ _ _ _ _ c.emit_act-behind.result c.loop-i.invariant h c.emit_act-behind.ensures)
 
-pub emit-acts-returns : goal.emit-acts-returns
-emit-acts-returns t c =
-    let h = acts_none (act_at c.args.left c.args.rows.now) c.args.rows.now c.loop-i.at c.args.count c.loop-i.-i (omega arith) in
+pub emit_acts-returns : goal.emit_acts-returns
+emit_acts-returns t c =
+    let h = acts_none (act_at c.args.left c.args.rows.now) c.args.rows.now c.loop-i.at c.args.count c.loop-i._i (omega arith) in
     going_all _ _ _ _ _ _ _ _ _ c.loop-i.invariant h
 
-pub emit-parts-put-requires : goal.emit-parts-put-requires
-emit-parts-put-requires t c = record { room = search rules; few = omega arith }
+pub emit_parts-put-requires : goal.emit_parts-put-requires
+emit_parts-put-requires t c = record { room = search rules; few = omega arith }

@@ -4,22 +4,22 @@ use Rattle.translator.specs.Writing.{names_at, spot_at}
 use Rattle.translator.proofs.Going.{Going}
 use Rattle.translator.proofs.statement.+emit_act_emit_acts_emit_after_emit_parts_emit_when.Given as goal
 
-abbrev pub decreases-emit-act : goal.decreases-emit-act
-decreases-emit-act l = 3 * l.left
+abbrev pub decreases-emit_act : goal.decreases-emit_act
+decreases-emit_act l = 3 * l.left
 
-abbrev pub decreases-emit-acts : goal.decreases-emit-acts
-decreases-emit-acts l = 3 * l.left + 1
+abbrev pub decreases-emit_acts : goal.decreases-emit_acts
+decreases-emit_acts l = 3 * l.left + 1
 
-abbrev pub decreases-emit-after : goal.decreases-emit-after
-decreases-emit-after l = 3 * l.left + 1
+abbrev pub decreases-emit_after : goal.decreases-emit_after
+decreases-emit_after l = 3 * l.left + 1
 
-abbrev pub decreases-emit-parts : goal.decreases-emit-parts
-decreases-emit-parts l = 3 * l.left + 2
+abbrev pub decreases-emit_parts : goal.decreases-emit_parts
+decreases-emit_parts l = 3 * l.left + 2
 
-abbrev pub decreases-emit-when : goal.decreases-emit-when
-decreases-emit-when l = 3 * l.left + 1
+abbrev pub decreases-emit_when : goal.decreases-emit_when
+decreases-emit_when l = 3 * l.left + 1
 
-abbrev pub invariant-emit-acts-loop-i : goal.invariant-emit-acts-loop-i
-invariant-emit-acts-loop-i l =
+abbrev pub invariant-emit_acts-loop-i : goal.invariant-emit_acts-loop-i
+invariant-emit_acts-loop-i l =
     Going (names_at l.rows l.site.lines) (spot_at l.rows l.site) (acts_of (act_at l.left l.rows) l.rows l.from l.count)
-    (acts_of (act_at l.left l.rows) l.rows l.at (l.count - l.-i)) l.p l.next l.most l.initial.code l.code
+    (acts_of (act_at l.left l.rows) l.rows l.at (l.count - l._i)) l.p l.next l.most l.initial.code l.code
