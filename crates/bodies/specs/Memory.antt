@@ -1,4 +1,4 @@
--- How the code's memory stands for the machine of the definitions: cited by contracts inside the crate alone.
+-- How the code's memory stands for the machine of the definitions: cited by contracts of this crate and of the private step of a scan in `machine`, not by the calls of a run.
 use Rattle.std.specs.Prelude.{◌≡◌, ℕ, zero, suc, ◌+◌, ◌-◌, ◌*◌, ◌<◌, ◌≤◌, List, [], ◌∷◌, length, take, ℤ, Ok, Err, Result, slice_index_or}
 use Rattle.kinds.specs.Ops.{Ops}
 use Rattle.flat.specs.Words.{word, states, entry, body}

@@ -1,5 +1,5 @@
 // Lists of lines: a level is read or set where there is a line.
-ghost use Rattle.std.specs.Prelude.{◌≡◌, set, pos, slice_index_or, slice_set};
+ghost use Rattle.std.specs.Prelude.{◌≡◌, pos, slice_index_or, slice_set};
 
 // The level of line `i`, or 0 beyond the last line.
 pub fn level(lines: &[i32], i: usize) -> i32
