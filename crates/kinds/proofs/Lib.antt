@@ -1,4 +1,3 @@
--- Lemmas on sizes, wrapped quotients and rounding.
-pub mod Sizes
+-- Lemmas on wrapped quotients and rounding.
 pub mod Quotients
 pub mod Nearness

@@ -6,26 +6,33 @@ pub mod milli;
 pub mod rounding;
 pub mod worked;
 
-ghost use Rattle.std.specs.Prelude.{◌≡◌, Bool, true, false};
+ghost use Rattle.std.specs.Prelude.{◌≡◌, ℤ, Bool, true, false, not};
+ghost use Rattle.std.specs.Ordering.{partial_lt};
 ghost use Rattle.kinds.specs.Ops.{Ops, flag};
 
 // Why a division has no quotient.
-#[derive(Clone, Copy)]
+#[derive(Clone, Copy, PartialEq, Eq, Debug)]
 pub enum NoQuotient {
     // The divisor is zero.
     ZeroDivisor,
 }
 
 // A kind of cell; the type that implements it is what a cell holds. `ops` is its meaning, and each function answers by it.
-pub trait Kind: Copy {
+pub trait Kind: Copy + PartialOrd {
     ghost ops: { Ops Self };
 
     // The kind's number, as the first word of a flat code has it.
     const NUMBER: i32;
 
+    // What clauses see of it.
+    ghost NUMBER: { ℤ };
+
     // The same number, tied to the kind's meaning.
     fn code_word() -> i32
-        ensures { result ≡ ops.number };
+        ensures { result ≡ ops.number }
+    {
+        Self::NUMBER
+    }
 
     // The value that means false.
     fn zero() -> Self
@@ -37,7 +44,10 @@ pub trait Kind: Copy {
 
     // Whether a value counts as true.
     fn is_true(self) -> bool
-        ensures { result ≡ ops.truth self };
+        ensures { result ≡ ops.truth self }
+    {
+        self != Self::zero()
+    }
 
     // The value that a raw number stands for.
     fn read(raw: i32) -> Self
@@ -65,11 +75,29 @@ pub trait Kind: Copy {
 
     // Whether this is below the other.
     fn less(self, than: Self) -> bool
-        ensures { result ≡ ops.less self than };
+        ensures { result ≡ ops.less self than }
+    {
+        self < than
+    }
 
     // Whether the two are equal.
     fn same(self, to: Self) -> bool
-        ensures { result ≡ ops.same self to };
+        ensures { result ≡ ops.same self to }
+    {
+        self == to
+    }
+
+    // The kind's number is the one in its meaning.
+    ghost number_is: { NUMBER ≡ ops.number };
+
+    // What counts as true is what differs from the kind's zero.
+    ghost truth_is: { (a : Self) → ops.truth a ≡ not (Self.eq a ops.zero) };
+
+    // The order of the values is the kind's.
+    ghost less_is: { (a b : Self) → ops.less a b ≡ partial_lt Self.partial_cmp a b };
+
+    // So is their equality.
+    ghost same_is: { (a b : Self) → ops.same a b ≡ Self.eq a b };
 
     // The kind's one is true.
     ghost one_true: { ops.truth ops.one ≡ true };

@@ -1,11 +1,14 @@
 // Long: whole numbers of 32 bits whose results wrap.
+#![tactic(auto, using(std::proofs::lemmas::Int::wraps, crate::proofs::Quotients::quotient_wrapped))]
+
 ghost use Rattle.kinds.specs.Longs as Longs;
 ghost use Rattle.std.proofs.Common.{rules};
+ghost use Rattle.std.specs.Prelude.{pos};
 
 use crate::{Kind, NoQuotient};
 
 // A whole number of 32 bits.
-#[derive(Clone, Copy)]
+#[derive(Clone, Copy, PartialEq, Eq, PartialOrd, Ord, Debug)]
 pub struct Long(pub i32);
 
 // Long as a kind of cell.
@@ -14,14 +17,19 @@ impl Kind for Long {
 
     const NUMBER: i32 = 1;
 
+    ghost NUMBER = { pos 1 };
+
+    ghost number_is = { Prim.search rules };
+
+    ghost truth_is = { Prim.search rules };
+
+    ghost less_is = { Prim.search rules };
+
+    ghost same_is = { Prim.search rules };
+
     ghost one_true = { Prim.search rules };
 
     ghost zero_untrue = { Prim.search rules };
-
-    // The kind's number.
-    fn code_word() -> i32 {
-        Self::NUMBER
-    }
 
     // Zero.
     fn zero() -> Long {
@@ -31,11 +39,6 @@ impl Kind for Long {
     // One.
     fn one() -> Long {
         Long(1)
-    }
-
-    // Only zero is untrue.
-    fn is_true(self) -> bool {
-        self.0 != 0
     }
 
     // A raw number is the value.
@@ -69,15 +72,5 @@ impl Kind for Long {
             return Err(NoQuotient::ZeroDivisor);
         }
         Ok(Long(self.0.wrapping_div(by.0)))
-    }
-
-    // Whether this is below the other.
-    fn less(self, than: Long) -> bool {
-        self.0 < than.0
-    }
-
-    // Whether the two are equal.
-    fn same(self, to: Long) -> bool {
-        self.0 == to.0
     }
 }

@@ -1,11 +1,12 @@
 // Milli: thousandths of 32 bits whose results stop at the ends.
 ghost use Rattle.kinds.specs.Millis as Millis;
 ghost use Rattle.std.proofs.Common.{rules};
+ghost use Rattle.std.specs.Prelude.{pos};
 
 use crate::{Kind, NoQuotient, rounding};
 
 // A number of thousandths.
-#[derive(Clone, Copy)]
+#[derive(Clone, Copy, PartialEq, Eq, PartialOrd, Ord, Debug)]
 pub struct Milli(pub i32);
 
 // How many thousandths are one.
@@ -17,14 +18,19 @@ impl Kind for Milli {
 
     const NUMBER: i32 = 2;
 
+    ghost NUMBER = { pos 2 };
+
+    ghost number_is = { Prim.search rules };
+
+    ghost truth_is = { Prim.search rules };
+
+    ghost less_is = { Prim.search rules };
+
+    ghost same_is = { Prim.search rules };
+
     ghost one_true = { Prim.search rules };
 
     ghost zero_untrue = { Prim.search rules };
-
-    // The kind's number.
-    fn code_word() -> i32 {
-        Self::NUMBER
-    }
 
     // Zero.
     fn zero() -> Milli {
@@ -34,11 +40,6 @@ impl Kind for Milli {
     // A thousand thousandths.
     fn one() -> Milli {
         Milli(WHOLE)
-    }
-
-    // Only zero is untrue.
-    fn is_true(self) -> bool {
-        self.0 != 0
     }
 
     // A raw number is the value.
@@ -64,7 +65,7 @@ impl Kind for Milli {
     // The product; that of the raw numbers is a thousand times too large.
     fn mul(self, by: Milli) -> Milli {
         let product = rounding::product(self.0, by.0);
-        Milli(rounding::stop(rounding::nearest(product, WHOLE as i64)))
+        Milli(rounding::stop(rounding::nearest(product, i64::from(WHOLE))))
     }
 
     // The quotient; that of the raw numbers is a thousand times too small.
@@ -73,16 +74,6 @@ impl Kind for Milli {
             return Err(NoQuotient::ZeroDivisor);
         }
         let dividend = rounding::product(WHOLE, self.0);
-        Ok(Milli(rounding::stop(rounding::nearest(dividend, by.0 as i64))))
-    }
-
-    // Whether this is below the other.
-    fn less(self, than: Milli) -> bool {
-        self.0 < than.0
-    }
-
-    // Whether the two are equal.
-    fn same(self, to: Milli) -> bool {
-        self.0 == to.0
+        Ok(Milli(rounding::stop(rounding::nearest(dividend, i64::from(by.0)))))
     }
 }

@@ -8,7 +8,7 @@ pub(crate) fn product(a: i32, b: i32) -> i64
     ensures value { result ≡ a *ℤ b }
     ensures bound { unsigned_abs result ≤ 2 ^ 62 }
 {
-    a as i64 * b as i64
+    i64::from(a) * i64::from(b)
 }
 
 // The whole number nearest to n / d, an exact half away from zero.
@@ -33,7 +33,7 @@ fn nearest_size(n: u64, d: u64) -> u64
 pub(crate) fn stop(x: i64) -> i32
     ensures { result ≡ saturate_to_bits 31 x }
 {
-    x.clamp(i32::MIN as i64, i32::MAX as i64) as i32
+    x.clamp(i64::from(i32::MIN), i64::from(i32::MAX)) as i32
 }
 
 // States the law of the rounding, and returns 0.
