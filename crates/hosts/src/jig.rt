@@ -49,11 +49,8 @@ impl Jig {
     fn pins(&self) -> [i32; 32]
         ensures { result ≡ wired self.now.held self.now.wiring }
     {
-        let mut levels = [0; 32];
-        for i in 0..32 {
-            levels[i] = lines::level(&self.held, usize::from(self.wiring[i]));
-        }
-        levels
+        self.wiring
+            .map(|output| lines::level(&self.held, usize::from(output)))
     }
 }
 
@@ -68,7 +65,7 @@ impl Host for Jig {
         ensures bound { result ≤ 32 }
         ensures all { result ≡ 32 }
     {
-        self.latch.as_slice().len()
+        self.latch.len()
     }
 
     // Always 32.
@@ -77,7 +74,7 @@ impl Host for Jig {
         ensures bound { result ≤ 32 }
         ensures all { result ≡ 32 }
     {
-        self.held.as_slice().len()
+        self.held.len()
     }
 
     // Latches what the wires bring, or refuses where the lid is open.

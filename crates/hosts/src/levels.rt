@@ -3,16 +3,13 @@ ghost use Rattle.std.specs.Prelude.{◌≡◌};
 ghost use Rattle.hosts.specs.Levels.{sensed, settled, cleared};
 
 use crate::Host;
+use std::array;
 
 // The latched levels of the lines 0 to 31, with 0 beyond the last line.
 pub fn sense<H: Host>(host: &H) -> [i32; 32]
     ensures { result ≡ sensed (H.means.latch host.now) }
 {
-    let mut seen = [0; 32];
-    for line in 0..32 {
-        seen[line] = host.level(line);
-    }
-    seen
+    array::from_fn(|line| host.level(line))
 }
 
 // Puts each line that has a value to it, in number order. The other lines keep what they hold.
@@ -20,10 +17,9 @@ pub fn put_all<H: Host>(host: &mut H, puts: &[Option<i32>; 32])
     ensures held { H.means.held host.new ≡ settled puts.now (H.means.held host.old) }
     ensures latch { H.means.latch host.new ≡ H.means.latch host.old }
 {
-    for i in 0..32 {
-        match puts[i] {
-            Some(v) => host.put(i, v),
-            None => {}
+    for (i, put) in puts.iter().enumerate() {
+        if let Some(v) = *put {
+            host.put(i, v);
         }
     }
 }

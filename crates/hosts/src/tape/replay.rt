@@ -9,14 +9,6 @@ use crate::{Host, lines};
 // What a tape has latched before its first sample: as many of these as it has inputs.
 static ZEROS: [i32; 32] = [0; 32];
 
-// The number of input lines for rows of that width.
-fn line_count(width: usize) -> usize
-    ensures value { result ≡ tape_lines width }
-    ensures bound { result ≤ 32 }
-{
-    if width <= 32 { width } else { 0 }
-}
-
 impl<'a> Tape<'a> {
     // A tape at its first row, with zeros latched and held. A width outside 1 to 32 has no inputs.
     pub fn new(rows: &'a [i32], width: usize) -> Tape<'a>
@@ -25,10 +17,9 @@ impl<'a> Tape<'a> {
         ensures used { result.used ≡ 0 }
         ensures held { result.held ≡ replicate 32 (pos 0) }
     {
-        let lines = line_count(width);
         Tape {
             rest: rows,
-            latch: &ZEROS[0..lines],
+            latch: ZEROS.get(..width).unwrap_or(&[]),
             used: 0,
             held: [0; 32],
         }
@@ -51,7 +42,7 @@ impl<'a> Host for Tape<'a> {
         ensures bound { result ≤ 32 }
         ensures all { result ≡ 32 }
     {
-        self.held.as_slice().len()
+        self.held.len()
     }
 
     // Latches the next row and moves on by it, or refuses where there is no whole row left.
@@ -59,15 +50,15 @@ impl<'a> Host for Tape<'a> {
         ensures sampled { Sampled tape_means self.old result self.new }
         ensures moved { Moved self.old result self.new }
     {
-        let width = self.latch.len();
-        if width == 0 || self.rest.len() < width {
-            return Err(Spent { rows: self.used });
+        match self.rest.split_at_checked(self.latch.len()) {
+            Some((row, rest)) if !row.is_empty() => {
+                self.latch = row;
+                self.rest = rest;
+                self.used += 1;
+                Ok(())
+            }
+            _ => Err(Spent { rows: self.used }),
         }
-        let (row, rest) = self.rest.split_at(width);
-        self.latch = row;
-        self.rest = rest;
-        self.used += 1;
-        Ok(())
     }
 
     // The level of line `i` in the row latched last.
