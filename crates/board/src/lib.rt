@@ -10,12 +10,13 @@ pub mod rows;
 use rows::Row;
 
 // What a run shows: 32 process rows and 32 output levels.
-#[derive(Clone, Copy)]
+#[derive(Clone, Copy, PartialEq, Eq, Debug)]
 pub struct Board {
     pub rows: [Row; 32],
     pub levels: [i32; 32],
 }
 
+// A process's number is bare: it is an instruction's operand or a loop's index, and a type of its own would be made anew at each call.
 impl Board {
     // The board at the beginning of a run.
     pub fn new() -> Board
@@ -64,14 +65,13 @@ impl Board {
         self.rows[p].clock = 0;
     }
 
-    // The outputs put take their levels.
+    // The outputs put take their levels. By index: what is written through `iter_mut` under `zip` is not known afterwards.
     pub fn settle(&mut self, puts: &[Option<i32>; 32])
         ensures { self.new ≡ record { rows = self.old.rows; levels = settled puts.now self.old.levels } }
     {
-        for i in 0..32 {
-            match puts[i] {
-                Some(v) => self.levels[i] = v,
-                None => {}
+        for (i, put) in puts.iter().enumerate() {
+            if let Some(v) = *put {
+                self.levels[i] = v;
             }
         }
     }
@@ -81,8 +81,8 @@ impl Board {
         requires { n ≤ 32 }
         ensures { self.new ≡ record { rows = ticked n self.old.rows; levels = self.old.levels } }
     {
-        for i in 0..n {
-            self.rows[i].clock = self.rows[i].clock.saturating_add(1);
+        for row in &mut self.rows[..n] {
+            row.clock = row.clock.saturating_add(1);
         }
     }
 }

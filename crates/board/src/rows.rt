@@ -1,7 +1,7 @@
 // Process rows.
 
 // A process's state and clock.
-#[derive(Clone, Copy)]
+#[derive(Clone, Copy, PartialEq, Eq, Debug)]
 pub struct Row {
     pub state: u8,
     pub clock: u32,
