@@ -5,27 +5,27 @@ ghost use Rattle.std.specs.Prelude.{◌≡◌};
 ghost use Rattle.refusals.specs.Numbers.{mount_number, start_number, scan_number, refusal_of};
 
 // A process, and its state whose body ran.
-#[derive(Clone, Copy)]
+#[derive(Clone, Copy, PartialEq, Eq, Debug)]
 pub struct Place {
     pub process: usize,
     pub state: u8,
 }
 
 // Why a code is not mounted.
-#[derive(Clone, Copy)]
+#[derive(Clone, Copy, PartialEq, Eq, Debug)]
 pub enum MountRefusal {
     NotFlatCode,
 }
 
 // Why a run is not started.
-#[derive(Clone, Copy)]
+#[derive(Clone, Copy, PartialEq, Eq, Debug)]
 pub enum StartRefusal {
     OtherKind,
     Short,
 }
 
 // Why a scan is refused: another kind of cell, too little memory or too few lines, the host's own fault, or where it was given up.
-#[derive(Drop)]
+#[derive(PartialEq, Eq, Debug, Drop)]
 pub enum ScanRefusal<F> {
     OtherKind,
     Short,
@@ -35,14 +35,14 @@ pub enum ScanRefusal<F> {
 }
 
 // Why a body is given up: a division without quotient, or a stack that held too few values or too many.
-#[derive(Clone, Copy)]
+#[derive(Clone, Copy, PartialEq, Eq, Debug)]
 pub enum Fault {
     Divisor,
     Stack,
 }
 
 // Why and where a scan is given up.
-#[derive(Clone, Copy)]
+#[derive(Clone, Copy, PartialEq, Eq, Debug)]
 pub struct GivenUp {
     pub fault: Fault,
     pub place: Place,
@@ -86,14 +86,15 @@ impl<F> ScanRefusal<F> {
     }
 }
 
-impl GivenUp {
-    // The refusal of the scan.
-    pub fn refusal<F>(self) -> ScanRefusal<F>
-        ensures { result ≡ refusal_of self.fault self.place }
-    {
-        match self.fault {
-            Fault::Divisor => ScanRefusal::Divisor(self.place),
-            Fault::Stack => ScanRefusal::Stack(self.place),
+// The refusal of a scan that was given up.
+impl<F> From<GivenUp> for ScanRefusal<F> {
+    ghost from_gives = { λ stop refusal. refusal ≡ refusal_of stop.fault stop.place };
+
+    // The same place, under the fault's name.
+    fn from(stop: GivenUp) -> ScanRefusal<F> {
+        match stop.fault {
+            Fault::Divisor => ScanRefusal::Divisor(stop.place),
+            Fault::Stack => ScanRefusal::Stack(stop.place),
         }
     }
 }
