@@ -1,5 +1,4 @@
 pub mod Scan
 pub mod Start
 pub mod Calls
-pub mod Latches
 pub mod Laws

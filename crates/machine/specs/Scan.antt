@@ -1,5 +1,6 @@
 -- One scan, from its refusals to its end.
-use Rattle.std.specs.Prelude.{ℕ, ◌+◌, ◌-◌, ◌^◌, min, Bool, false, cond, not, ◌||◌, List, ◌++◌, length, drop, ℤ, pos, negsuc, ◌==◌, nat_lt}
+use Rattle.std.specs.Prelude.{ℕ, ◌+◌, ◌-◌, ◌^◌, min, Bool, cond, not, ◌||◌, List, ◌++◌, length, drop, ℤ, nat_lt}
+use Rattle.kinds.specs.Integers.{int_eq}
 use Rattle.kinds.specs.Ops.{Ops}
 use Rattle.hosts.specs.Meaning.{Pins, up, down}
 use Rattle.hosts.specs.Levels.{sensed, settled}
@@ -63,14 +64,15 @@ sampled k code (down f) w = record { told = refused_by 12 f; world = w }
 
 -- Two words are the same.
 abbrev pub same_word : ℤ → ℤ → Bool
-same_word (pos a) (pos b) = a == b
-same_word (pos a) (negsuc b) = false
-same_word (negsuc a) (pos b) = false
-same_word (negsuc a) (negsuc b) = a == b
+same_word a b = int_eq a b
+
+-- So many cells, inputs and outputs are too few for a code with this head.
+abbrev pub too_few : Head → ℕ → ℕ → ℕ → Bool
+too_few h cells inputs outputs = nat_lt cells h.cells || (nat_lt inputs h.inputs || nat_lt outputs h.outputs)
 
 -- Cells or host lines are too few for a code with this head.
 abbrev pub short : {V : Type 0} → Head → World V → Bool
-short h w = nat_lt (length w.cells) h.cells || (nat_lt (length w.latch) h.inputs || nat_lt (length w.held) h.outputs)
+short h w = too_few h (length w.cells) (length w.latch) (length w.held)
 
 -- A scan of a code by a kind, with so much working memory, what stands at the pins, and the world before it.
 abbrev pub scan : {V F : Type 0} → Ops V → List ℤ → ℕ → Pins F → World V → Scanned V F

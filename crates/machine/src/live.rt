@@ -3,9 +3,8 @@ ghost use Rattle.std.specs.Prelude.{◌≡◌, ℕ, ◌+◌, ◌≤◌, length};
 ghost use Rattle.hosts.specs.Levels.{sensed};
 ghost use Rattle.flat.specs.Words.{word};
 ghost use Rattle.flat.specs.Layout.{Holds};
-ghost use Rattle.machine.specs.Scan.{same_word, swept_on, ended};
+ghost use Rattle.machine.specs.Scan.{same_word, too_few, swept_on, ended};
 ghost use Rattle.machine.specs.Calls.{told, Scans, Untouched};
-ghost use Rattle.machine.specs.Latches.{Latches};
 ghost use Rattle.bodies.specs.Memory.{Runnable};
 
 use board::Board;
@@ -17,6 +16,7 @@ use kinds::Kind;
 use refusals::ScanRefusal;
 
 // A run that was started: it holds its code with the code's head, and counts its scans.
+// The two stand here as in `Mounted`: a field for both would put one name more into each clause and spare none.
 #[derive(Drop)]
 pub struct Live<'a> {
     code: &'a [i32],
@@ -28,17 +28,14 @@ pub struct Live<'a> {
 pub(crate) fn is_kind<K: Kind>(word: i32) -> bool
     ensures { result ≡ same_word word K.ops.number }
 {
-    word == K::code_word()
+    word == K::NUMBER
 }
 
-// Samples the host, and passes its fault up whole.
-fn sample<H: Host>(host: &mut H) -> Result<(), ScanRefusal<H::Fault>>
-    ensures { Latches H.means host.old result host.new }
+// Whether cells or host lines are too few for a code with this head.
+pub(crate) fn is_short<K, H: Host>(head: &Head, cells: &[K], host: &H) -> bool
+    ensures { result ≡ too_few head.now (length cells.now) (length (H.means.latch host.now)) (length (H.means.held host.now)) }
 {
-    match host.sample() {
-        Ok(_) => Ok(()),
-        Err(fault) => Err(ScanRefusal::Down(fault)),
-    }
+    cells.len() < head.cells || host.inputs() < head.inputs || host.outputs() < head.outputs
 }
 
 impl<'a> Live<'a> {
@@ -66,15 +63,12 @@ impl<'a> Live<'a> {
     pub fn halt(self) -> u64
         ensures { result ≡ self.entry.scans }
     {
-        let Live {
-            code: _,
-            head: _,
-            scans,
-        } = self;
+        let Live { scans, .. } = self;
         scans
     }
 
     // One scan: samples the host, runs each process in order, and puts the outputs; the answer is the steps taken.
+    #[tactic(auto, using(bodies::proofs::Runnables::runnable))]
     pub fn scan<K: Kind, H: Host>(
         &mut self,
         cells: &mut [K],
@@ -91,14 +85,10 @@ impl<'a> Live<'a> {
         if !is_kind::<K>(self.head.kind) {
             return Err(ScanRefusal::OtherKind);
         }
-        if work.len() < self.head.cells + 16
-            || cells.len() < self.head.cells
-            || host.inputs() < self.head.inputs
-            || host.outputs() < self.head.outputs
-        {
+        if work.len() < self.head.cells + 16 || is_short(&self.head, cells, host) {
             return Err(ScanRefusal::Short);
         }
-        sample(host)?;
+        host.sample().map_err(ScanRefusal::Down)?;
         self.proceed(cells, work, board, host)
     }
 
@@ -119,14 +109,9 @@ impl<'a> Live<'a> {
         ensures head { self.new.head ≡ self.old.head }
     {
         let seen = sense(host);
-        match advance(self.code, cells, board, work, &seen) {
-            Err(stop) => Err(stop.refusal()),
-            Ok(done) => {
-                let puts = done.1;
-                put_all(host, &puts);
-                self.scans = self.scans.saturating_add(1);
-                Ok(done.0)
-            }
-        }
+        let (steps, puts) = advance(self.code, cells, board, work, &seen)?;
+        put_all(host, &puts);
+        self.scans = self.scans.saturating_add(1);
+        Ok(steps)
     }
 }

@@ -2,7 +2,7 @@
 ghost use Rattle.std.specs.Prelude.{◌≡◌, ℕ, ◌≤◌, ◌++◌, length, drop, replicate};
 ghost use Rattle.machine.specs.Calls.{Mounts, Starts};
 
-use crate::live::{Live, is_kind};
+use crate::live::{Live, is_kind, is_short};
 use board::Board;
 use flat::head::Head;
 use flat::layout::read_head;
@@ -22,19 +22,17 @@ pub struct Mounted<'a> {
 pub fn mount(code: &[i32]) -> Result<Mounted<'_>, MountRefusal>
     ensures { Mounts code.now result }
 {
-    match read_head(code) {
-        Ok(head) => Ok(Mounted { code, head }),
-        Err(_) => Err(MountRefusal::NotFlatCode),
-    }
+    let head = read_head(code).map_err(|_| MountRefusal::NotFlatCode)?;
+    Ok(Mounted { code, head })
 }
 
-// Sets the first `n` cells to zero.
+// Sets the first `n` cells to zero. Not by `fill`, which asks that a clone cannot fail: no kind says so of its values.
 fn clear_cells<K: Kind>(cells: &mut [K], n: usize)
     requires { n ≤ length cells.old }
     ensures { cells.new ≡ replicate n K.ops.zero ++ drop n cells.old }
 {
-    for i in 0..n {
-        cells[i] = K::zero();
+    for cell in &mut cells[..n] {
+        *cell = K::zero();
     }
 }
 
@@ -58,10 +56,7 @@ impl<'a> Mounted<'a> {
         if !is_kind::<K>(self.head.kind) {
             return Err(StartRefusal::OtherKind);
         }
-        if cells.len() < self.head.cells
-            || host.inputs() < self.head.inputs
-            || host.outputs() < self.head.outputs
-        {
+        if is_short(&self.head, cells, host) {
             return Err(StartRefusal::Short);
         }
         clear_cells(cells, self.head.cells);
