@@ -1,15 +1,14 @@
 -- Laws of a process's turn and of all processes in order.
-use Rattle.std.proofs.Common.{◌≡◌, ℕ, suc, ◌+◌, ◌-◌, ◌*◌, ◌<◌, ◌≤◌, true, ltb, List, [], length, ℤ, Ok, Err, Result, sym, refl, ap, ◌∙◌, subst, arith, length-drop}
-use Rattle.std.proofs.lemmas.Bool.{lt-ltb}
+use Rattle.std.proofs.Common.{◌≡◌, ℕ, suc, ◌+◌, ◌-◌, ◌*◌, ◌<◌, ◌≤◌, List, length, ℤ, Ok, Err, Result, sym, refl, ap, ◌∙◌, subst, arith, length-drop}
 use Rattle.kinds.specs.Ops.{Ops}
 use Rattle.flat.specs.Words.{word, states, entry, body}
 use Rattle.refusals.specs.declared.Fault.{Fault}
 use Rattle.refusals.specs.declared.Fault.TheVariants.{Divisor, Stack}
 use Rattle.refusals.specs.declared.GivenUp.{GivenUp}
 use Rattle.board.specs.Rows.{state}
-use Rattle.bodies.specs.Machine.{Machine, with_stack}
-use Rattle.bodies.specs.Body.{Ran, done, run}
-use Rattle.bodies.specs.Sweep.{visit, swept, no_divisor, no_stack, onward, sweep}
+use Rattle.bodies.specs.Machine.{Machine}
+use Rattle.bodies.specs.Body.{Ran, done}
+use Rattle.bodies.specs.Sweep.{visit, no_divisor, no_stack, onward, sweep}
 use Rattle.bodies.specs.Memory.{ran, given_up, Sound, Runnable}
 
 -- an entry read by its place
@@ -35,19 +34,6 @@ body_sound code q s e base words y h l is b w =
     let most = y.few_instructions in
     (rw (w, b) (y.sound e few), rw w (omega arith))
 
-module _ {V : Type 0} (k : Ops V) (seen code : List ℤ) (q : ℕ) (m : Machine V) where
-  pub visit_runs :
-      (r : Ran V) (s e : ℕ) (words : List ℤ)
-      → s ≡ state m.board q
-      → s < states code q
-      → e ≡ entry code q s
-      → words ≡ body code e
-      → r ≡ run k seen q e words 0 0 (with_stack [] m)
-      → r ≡ visit k seen code q m
-  visit_runs r s e words is l at w h =
-      let yes : ltb (state m.board q) (states code q) ≡ true = rw (← is) (lt-ltb s (states code q) l) in
-      rw (yes, ← is, ← at, ← w) h
-
 -- The answer of process q, in its state s, with its place where it is given up.
 abbrev pub placed : ℕ → ℕ → Result ℕ Fault → Result ℕ GivenUp
 placed q s (Ok n) = Ok n
@@ -59,17 +45,12 @@ placed_ok q s n (Err f) e = cc
 
 module _ {V : Type 0} (k : Ops V) (seen code : List ℤ) where
   -- the turn of process q, of n
-  pub sweep_turn :
+  sweep_turn :
       (n q steps : ℕ) (m : Machine V)
       → q < n
       → sweep k seen code (n - q) q steps m ≡ onward (visit k seen code q m) q (state m.board q) (λ j m₁. sweep k seen code (n - (q + 1)) (q + 1) (steps + j) m₁)
   sweep_turn n q steps m h =
       let e : n - q ≡ suc (n - (q + 1)) = omega arith in
-      rw e refl
-
-  pub sweep_done : (n q steps : ℕ) (m : Machine V) → n ≤ q → sweep k seen code (n - q) q steps m ≡ swept steps m
-  sweep_done n q steps m h =
-      let e : n - q ≡ 0 = omega arith in
       rw e refl
 
   pub sweep_again :

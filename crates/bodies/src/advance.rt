@@ -5,7 +5,6 @@ ghost use Rattle.bodies.specs.Advance.{advance as advanced, advances};
 ghost use Rattle.bodies.specs.Memory.{Runnable};
 
 use crate::running::Running;
-use crate::sweep::sweep;
 use board::Board;
 use flat::words::{CELLS, PROCESSES, count_at};
 use kinds::Kind;
@@ -25,17 +24,19 @@ pub fn advance<K: Kind>(
     ensures result { advances result cells.new board.new ≡ advanced K.ops seen.now code.now cells.old board.old }
 {
     let n = count_at(code, CELLS);
-    work[..n].copy_from_slice(&cells[..n]);
-    let mut t = Running {
-        depth: 0,
-        board: *board,
-        puts: [None; 32],
-    };
-    let steps = sweep(code, work, n, &mut t, seen)?;
-    cells[..n].copy_from_slice(&work[..n]);
-    let puts = t.puts;
-    t.board.settle(&puts);
-    t.board.tick(count_at(code, PROCESSES));
-    *board = t.board;
+    let (copy, stack) = work.split_at_mut(n);
+    copy.copy_from_slice(&cells[..n]);
+    let mut scan = Running::begin(copy, stack, *board);
+    let steps = scan.sweep(code, seen)?;
+    let Running {
+        cells: after,
+        board: mut next,
+        puts,
+        ..
+    } = scan;
+    cells[..n].copy_from_slice(after);
+    next.settle(&puts);
+    next.tick(count_at(code, PROCESSES));
+    *board = next;
     Ok((steps, puts))
 }
