@@ -1,15 +1,15 @@
 // Whether a code is of the layout.
 ghost use Rattle.std.specs.Prelude.{◌≡◌, ℕ, ◌<◌, ◌≤◌, Bool, true};
 ghost use Rattle.flat.specs.Words.{word, head, body};
-ghost use Rattle.flat.specs.Tests.{within, timing_fits, memory_fits, program_fits, head_fits, entry_fits, process_fits, every, instructions_fit, ends, rest_fits, fits};
+ghost use Rattle.flat.specs.Tests.{within, timing_fits, memory_fits, program_fits, head_fits, entry_fits, process_fits, every, instructions_fit, rest_fits, fits};
 ghost use Rattle.flat.specs.Layout.{Reads};
 
 use crate::head::Head;
 use crate::kind::CellKind;
 use crate::operand::{instructions_fit, is_under};
 use crate::words::{
-    CELLS, INPUTS, INSTRUCTIONS, KIND, OUTPUTS, PROCESSES, TACT, count_at, instruction_place,
-    instructions_from, process_place, word_at,
+    CELLS, INPUTS, INSTRUCTIONS, KIND, OUTPUTS, PROCESSES, TACT, count_at, entry_place,
+    instruction_place, instructions_from, process_place, word_at,
 };
 
 // A code that is not of the layout.
@@ -80,16 +80,15 @@ fn entry_fits(code: &[i32], q: usize, s: usize) -> bool
     requires { (q < 32) × (s < 16) }
     ensures { result ≡ entry_fits code.now q s }
 {
-    let place = process_place(q);
-    let entry = word_at(code, place + 1 + s);
-    if s < count_at(code, place) {
+    let entry = word_at(code, entry_place(q, s));
+    if s < count_at(code, process_place(q)) {
         is_under(count_at(code, INSTRUCTIONS), entry)
     } else {
         entry == 0
     }
 }
 
-// Whether each entry of process `q` fits.
+// Whether each entry of process `q` fits. That there is such a process stays a clause: a type that says so would be made here only to be taken apart.
 #[tactic(auto, unfolding(crate::specs::Tests::every))]
 fn entries_fit(code: &[i32], q: usize) -> bool
     requires { q < 32 }
@@ -115,15 +114,6 @@ fn processes_fit(code: &[i32]) -> bool
     (0..count_at(code, PROCESSES)).all(|q| process_fits(code, q))
 }
 
-// Whether the last instruction is end.
-fn ends_well(code: &[i32]) -> bool
-    requires { head_fits code.now ≡ true }
-    ensures { result ≡ ends code.now }
-{
-    let last = count_at(code, INSTRUCTIONS) - 1;
-    word_at(code, instruction_place(code, last)) == 0
-}
-
 // Whether each instruction fits.
 fn body_fits(code: &[i32]) -> bool
     requires { head_fits code.now ≡ true }
@@ -132,12 +122,13 @@ fn body_fits(code: &[i32]) -> bool
     instructions_fit(&Head::of(code), instructions_from(code, 0))
 }
 
-// Whether all behind the head fits.
+// Whether the processes and the instructions fit, and the last instruction is end.
 fn rest_fits(code: &[i32]) -> bool
     requires { head_fits code.now ≡ true }
     ensures { result ≡ rest_fits code.now }
 {
-    processes_fit(code) && body_fits(code) && ends_well(code)
+    let last = count_at(code, INSTRUCTIONS) - 1;
+    processes_fit(code) && body_fits(code) && word_at(code, instruction_place(code, last)) == 0
 }
 
 // Whether a code is of the layout.

@@ -1,5 +1,5 @@
 // The words of a flat code by their places.
-ghost use Rattle.std.specs.Prelude.{◌≡◌, ◌+◌, ◌*◌, ◌≤◌, length};
+ghost use Rattle.std.specs.Prelude.{◌≡◌, ◌+◌, ◌*◌, ◌<◌, ◌≤◌, length};
 ghost use Rattle.flat.specs.Words.{natural, at, word, body};
 
 // The place of the kind of cell.
@@ -59,6 +59,14 @@ pub fn process_place(q: usize) -> usize
     ensures { result ≡ 7 + 17 * q }
 {
     HEAD_WORDS + PROCESS_WORDS * q
+}
+
+// Where the entry of state `s` of process `q` stands.
+pub fn entry_place(q: usize, s: usize) -> usize
+    requires { (q < 32) × (s < 256) }
+    ensures { result ≡ 8 + 17 * q + s }
+{
+    process_place(q) + 1 + s
 }
 
 // Where instruction `i` stands, behind all processes.
