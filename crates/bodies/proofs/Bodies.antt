@@ -1,5 +1,6 @@
 -- Laws of a body's run.
 use Rattle.std.proofs.Common.{◌≡◌, ℕ, zero, suc, ◌+◌, ◌-◌, ◌*◌, ◌<◌, ◌≤◌, Bool, true, false, cond, ltb, List, [], ◌∷◌, length, get_or, drop, ℤ, pos, Ok, Err, Result, sym, refl, ap, ◌∙◌, subst, add-zero, arith}
+use Rattle.std.proofs.Math.ListN.{length-set}
 use Rattle.kinds.specs.Ops.{Ops}
 use Rattle.kinds.specs.declared.NoQuotient.{NoQuotient}
 use Rattle.flat.specs.Instructions.{decoded}
@@ -9,40 +10,41 @@ use Rattle.bodies.specs.Machine.{Machine, Outcome, over, skip, no_quotient, no_r
 use Rattle.bodies.specs.Body.{done, run, follow}
 use Rattle.bodies.specs.Memory.{InRange, Inside, Sound}
 
--- an outcome passes over at most half of `size` words
-abbrev pub Short : {V : Type 0} → ℕ → Outcome V → Type 0
-Short size (over m) = Unit {0}
-Short size (skip n m) = 2 * n ≤ size
-Short size no_quotient = Unit {0}
-Short size no_room = Unit {0}
+-- an outcome passes over at most half of `size` words, and leaves so many cells
+abbrev pub Short : {V : Type 0} → ℕ → ℕ → Outcome V → Type 0
+Short size cells (over m) = length m.cells ≡ cells
+Short size cells (skip n m) = (2 * n ≤ size) × (length m.cells ≡ cells)
+Short size cells no_quotient = Unit {0}
+Short size cells no_room = Unit {0}
 
-module _ {V : Type 0} where
-  short_push : (size : ℕ) (v : V) (m : Machine V) → Short size (push v m)
-  short_push size v m = elim (ltb (length m.stack) 16) as (λ b. Short size (cond b (skip 0 (with_stack (v ∷ m.stack) m)) no_room)) [ true ↦ omega arith | false ↦ tt ]
+module _ {V : Type 0} (size cells : ℕ) where
+  short_push : (v : V) (m : Machine V) → length m.cells ≡ cells → Short size cells (push v m)
+  short_push v m l = elim (ltb (length m.stack) 16) as (λ b. Short size cells (cond b (skip 0 (with_stack (v ∷ m.stack) m)) no_room)) [ true ↦ (omega arith, l) | false ↦ tt ]
 
-  short_push_result : (size : ℕ) (o : Result V NoQuotient) (m : Machine V) → Short size (push_result o m)
-  short_push_result size (Err e) m = tt
-  short_push_result size (Ok v) m = short_push size v m
+  short_push_result : (o : Result V NoQuotient) (m : Machine V) → length m.cells ≡ cells → Short size cells (push_result o m)
+  short_push_result (Err e) m l = tt
+  short_push_result (Ok v) m l = short_push v m l
 
-  short_top : (size : ℕ) (s : List V) (m : Machine V) (f : V → Machine V → Outcome V) → ((v : V) (m₁ : Machine V) → Short size (f v m₁)) → Short size (top_of s m f)
-  short_top size [] m f h = tt
-  short_top size (v ∷ rest) m f h = h v (with_stack rest m)
+  short_top : (s : List V) (m : Machine V) (f : V → Machine V → Outcome V) → length m.cells ≡ cells → ((v : V) (m₁ : Machine V) → length m₁.cells ≡ cells → Short size cells (f v m₁)) → Short size cells (top_of s m f)
+  short_top [] m f l h = tt
+  short_top (v ∷ rest) m f l h = h v (with_stack rest m) l
 
-  short_cond : (size : ℕ) (b : Bool) (x : ℕ) (m : Machine V) → 2 * x ≤ size → Short size (cond b (skip 0 m) (skip x m))
-  short_cond size true x m h = omega arith
-  short_cond size false x m h = h
+  short_cond : (b : Bool) (x : ℕ) (m : Machine V) → length m.cells ≡ cells → 2 * x ≤ size → Short size cells (cond b (skip 0 m) (skip x m))
+  short_cond true x m l h = (omega arith, l)
+  short_cond false x m l h = (h, l)
 
 module _ {V : Type 0} (k : Ops V) (seen : List ℤ) (p : ℕ) where
-  pub short_step : (at : ℕ) (rest : List ℤ) (i : Instr) (m : Machine V) → Inside at rest i → Short (length rest) (step k seen p at i m)
-  short_step at rest End m h = tt
-  short_step at rest (Push s) m h = short_push (length rest) _ m
-  short_step at rest (Convert u) m h = short_top (length rest) m.stack m _ (λ a m₁. short_push (length rest) _ m₁)
-  short_step at rest (Combine o) m h = short_top (length rest) m.stack m _ (λ b m₁. short_top (length rest) m₁.stack m₁ _ (λ a m₂. short_push_result (length rest) (combined k o a b) m₂))
-  short_step at rest (Jump x) m h = omega arith
-  short_step at rest (Unless x) m h = short_top (length rest) m.stack m _ (λ a m₁. short_cond (length rest) (k.truth a) (x - (at + 1)) m₁ (omega arith))
-  short_step at rest (Keep x) m h = short_top (length rest) m.stack m _ (λ a m₁. omega arith)
-  short_step at rest (Drive x) m h = short_top (length rest) m.stack m _ (λ a m₁. omega arith)
-  short_step at rest (Set c) m h = omega arith
+  short_step : (at : ℕ) (rest : List ℤ) (i : Instr) (m : Machine V) → Inside at rest i → Short (length rest) (length m.cells) (step k seen p at i m)
+  short_step at rest End m h = refl
+  short_step at rest (Push s) m h = short_push (length rest) (length m.cells) _ m refl
+  short_step at rest (Convert u) m h = short_top (length rest) (length m.cells) m.stack m _ refl (λ a m₁ l. short_push (length rest) (length m.cells) _ m₁ l)
+  short_step at rest (Combine o) m h =
+      short_top (length rest) (length m.cells) m.stack m _ refl (λ b m₁ l. short_top (length rest) (length m.cells) m₁.stack m₁ _ l (λ a m₂ l₂. short_push_result (length rest) (length m.cells) (combined k o a b) m₂ l₂))
+  short_step at rest (Jump x) m h = (omega arith, refl)
+  short_step at rest (Unless x) m h = short_top (length rest) (length m.cells) m.stack m _ refl (λ a m₁ l. short_cond (length rest) (length m.cells) (k.truth a) (x - (at + 1)) m₁ l (omega arith))
+  short_step at rest (Keep x) m h = short_top (length rest) (length m.cells) m.stack m _ refl (λ a m₁ l. (omega arith, length-set m₁.cells x a ∙ l))
+  short_step at rest (Drive x) m h = short_top (length rest) (length m.cells) m.stack m _ refl (λ a m₁ l. (omega arith, l))
+  short_step at rest (Set c) m h = (omega arith, refl)
 
   -- one instruction, and the rest of the words
   pub run_turn :
@@ -89,34 +91,26 @@ sound_skip (suc n) cells at (op ∷ (x ∷ rest)) h s =
     let f : at + suc n ≡ (at + 1) + n = omega arith in
     rw (e, f) (sound_skip n cells (at + 1) rest (omega arith) s.2)
 
--- a turn of the loop over a body: an instruction that goes on
-module _ {V : Type 0} (k : Ops V) (seen : List ℤ) (p : ℕ) where
-  pub turn_short :
-      (base at : ℕ) (left : List ℤ) (m m₁ : Machine V) (i : Instr) (n : ℕ)
-      → 2 ≤ length left
-      → i ≡ decoded (get_or left 0 (pos 0)) (get_or left 1 (pos 0))
-      → Sound base at left
-      → skip n m₁ ≡ step k seen p at i m
-      → 2 * n ≤ length (drop 2 left)
-  turn_short base at left m m₁ i n h e s o =
-      let inside : Inside at (drop 2 left) i = rw e (sound_turn base at left h s).1 in
-      let P : Outcome V → Type 0 = Short (length (drop 2 left)) in
-      subst P (sym o) (short_step k seen p at (drop 2 left) i m inside)
+-- a turn of the loop over a body
+module _ {V : Type 0} (k : Ops V) (seen : List ℤ) (p base at : ℕ) (left : List ℤ) (m : Machine V) (i : Instr) (two : 2 ≤ length left) (is : i ≡ decoded (get_or left 0 (pos 0)) (get_or left 1 (pos 0))) (sound : Sound base at left) where
+  -- what came of the instruction passes over no more words than are left, and leaves as many cells
+  pub turn_short : (o : Outcome V) → o ≡ step k seen p at i m → Short (length (drop 2 left)) (length m.cells) o
+  turn_short o e =
+      let inside : Inside at (drop 2 left) i = rw is (sound_turn base at left two sound).1 in
+      subst (Short (length (drop 2 left)) (length m.cells)) (sym e) (short_step k seen p at (drop 2 left) i m inside)
 
+  -- an instruction that goes on
   pub turn_again :
-      (base at : ℕ) (left : List ℤ) (steps : ℕ) (m m₁ : Machine V) (i : Instr) (n : ℕ)
-      → 2 ≤ length left
-      → i ≡ decoded (get_or left 0 (pos 0)) (get_or left 1 (pos 0))
-      → Sound base at left
+      (steps n : ℕ) (m₁ : Machine V)
       → skip n m₁ ≡ step k seen p at i m
       → (run k seen p (at + (1 + n)) (drop (2 * n) (drop 2 left)) 0 (steps + 1) m₁ ≡ run k seen p at left 0 steps m)
       × Sound base (at + (1 + n)) (drop (2 * n) (drop 2 left))
-  turn_again base at left steps m m₁ i n h e s o =
-      let few : 2 * n ≤ length (drop 2 left) = turn_short base at left m m₁ i n h e s o in
+  turn_again steps n m₁ o =
+      let few : 2 * n ≤ length (drop 2 left) = (turn_short (skip n m₁) o).0 in
       let f : at + (1 + n) ≡ (at + 1) + n = omega arith in (
         rw f
             (sym (run_skip k seen p n (at + 1) (drop 2 left) (steps + 1) m₁ few)
-            ∙ ap (λ (q : Outcome V). follow q (steps + 1) (λ j m₂. run k seen p (at + 1) (drop 2 left) j (steps + 1) m₂)) (o ∙ ap (λ (j : Instr). step k seen p at j m) e)
-            ∙ sym (run_turn k seen p at left steps m h)),
-        rw f (sound_skip n base (at + 1) (drop 2 left) few (sound_turn base at left h s).2),
+            ∙ ap (λ (q : Outcome V). follow q (steps + 1) (λ j m₂. run k seen p (at + 1) (drop 2 left) j (steps + 1) m₂)) (o ∙ ap (λ (j : Instr). step k seen p at j m) is)
+            ∙ sym (run_turn k seen p at left steps m two)),
+        rw f (sound_skip n base (at + 1) (drop 2 left) few (sound_turn base at left two sound).2),
       )

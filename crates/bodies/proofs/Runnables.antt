@@ -1,8 +1,11 @@
 -- A code of the layout can be run: what its tests say of each instruction.
-use Rattle.std.proofs.Common.{◌≡◌, ℕ, zero, suc, ◌+◌, ◌-◌, ◌*◌, ◌<◌, ◌≤◌, true, false, ltb, List, [], ◌∷◌, length, get_or, drop, ℤ, pos, negsuc, sym, ap, ◌∙◌, subst, inl, inr, eq-or-lt_of_le, arith}
+use Rattle.std.proofs.Common.{◌≡◌, ℕ, ◌+◌, ◌-◌, ◌*◌, ◌<◌, ◌≤◌, true, false, ltb, List, [], ◌∷◌, length, get_or, drop, ℤ, pos, negsuc, sym, ap, ◌∙◌, inl, inr, arith}
 use Rattle.std.proofs.lemmas.Bool.{ltb-true, and_parts, cases_lt, false≢true}
 use Rattle.std.proofs.lemmas.Bool.Decides.{nat_tests}
+use Rattle.std.specs.List.{AllByRecursion, range_with_len}
 use Rattle.std.proofs.lemmas.List.{drop-drop}
+use Rattle.std.proofs.lemmas.List.Elements.{All-from_recursion, All-get_or}
+use Rattle.std.proofs.lemmas.List.FromFn.{length-range_with_len, get_or-range_with_len}
 use Rattle.flat.specs.declared.head.Head.{Head}
 use Rattle.flat.specs.declared.instr.Instr.{Instr}
 use Rattle.flat.specs.declared.instr.Instr.TheVariants.{End}
@@ -14,15 +17,11 @@ use Rattle.flat.proofs.Layouts.{body_size, instructions_of_layout}
 use Rattle.bodies.specs.Memory.{InRange, Inside, Sound, Runnable}
 use Rattle.bodies.proofs.Bodies.{sound_skip}
 
--- What holds at each of the next n numbers, from i on; and what that says of one of them.
-abbrev Each : (ℕ → Type 0) → ℕ → ℕ → Type 0
-Each P i zero = Unit {0}
-Each P i (suc n) = P i × Each P (suc i) n
-
-each_at : (P : ℕ → Type 0) (i n j : ℕ) → Each P i n → i ≤ j → j < i + n → P j
-each_at P i zero j all l h = absurd (omega arith)
-each_at P i (suc n) j all l h =
-    elim (eq-or-lt_of_le l) [ inl same ↦ subst P same all.0 | inr later ↦ each_at P (suc i) n j all.1 later (omega arith) ]
+-- what holds of each number below n, of one of them
+each_at : (P : ℕ → Type 0) (n j : ℕ) → AllByRecursion P (range_with_len 0 n) → j < n → P j
+each_at P n j all l =
+    let e : get_or (range_with_len 0 n) j 0 ≡ j = grind (arith, get_or-range_with_len) in
+    rw e at (All-get_or P (range_with_len 0 n) j 0 (rw length-range_with_len l) (All-from_recursion P (range_with_len 0 n) all))
 
 module _ (h : Head) (i : ℕ) (rest : List ℤ) (few-in : h.inputs ≤ 32) (few-out : h.outputs ≤ 32) (few-procs : h.processes ≤ 32) (size : h.instructions * 2 ≡ i * 2 + 2 + length rest) where
   -- an instruction that fits reads and writes within memory, and jumps within the words left
@@ -46,7 +45,7 @@ module _ (h : Head) (i : ℕ) (rest : List ℤ) (few-in : h.inputs ≤ 32) (few-
   abbrev Fits : ℕ → Type 0
   Fits o = (x : ℤ) → operand_fits h i o x ≡ true → Safe (get_or (table x (natural x)) o End)
 
-  all_fit : Each Fits 0 28
+  all_fit : AllByRecursion Fits (range_with_len 0 28)
   all_fit =
       let cell : (x : ℤ) → under h.cells x ≡ true → (natural x < h.cells) × Unit {0} = λ x e. (below h.cells x e, tt) in
       let line : (n : ℕ) → n ≤ 32 → (x : ℤ) → under n x ≡ true → (natural x < 32) × Unit {0} = λ n few x e. let b = below n x e in (omega arith, tt) in
@@ -135,7 +134,7 @@ module _ (h : Head) (i : ℕ) (rest : List ℤ) (few-in : h.inputs ≤ 32) (few-
 
   fit_safe : (o x : ℤ) → instruction_fits h i o x ≡ true → Safe (decoded o x)
   unfolding decoded
-  fit_safe (pos o) x e = each_at Fits 0 28 o all_fit (omega arith) (known o x e) x e
+  fit_safe (pos o) x e = each_at Fits 28 o all_fit (known o x e) x e
   fit_safe (negsuc o) x e = absurd (false≢true e)
 
 -- a word within limits, as a count

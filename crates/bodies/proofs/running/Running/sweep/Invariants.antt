@@ -1,0 +1,11 @@
+use Rattle.std.proofs.Common.{◌≡◌, ◌-◌, ◌*◌, ◌≤◌, length}
+use Rattle.bodies.specs.Memory.{meaning}
+use Rattle.bodies.specs.Sweep.{sweep}
+use Rattle.bodies.proofs.running.Running.sweep.Given as goal
+
+abbrev pub invariant-loop-q : goal.invariant-loop-q
+invariant-loop-q g l =
+    (sweep g.K.Kind.ops l.seen l.code (l.q-end - l.q) l.q l.steps (meaning g.K.Kind.ops l.self)
+    ≡ sweep g.K.Kind.ops l.seen l.code l.q-end 0 0 (meaning g.K.Kind.ops l.initial.self))
+    × (length l.self.cells.now ≡ length l.initial.self.cells.now)
+    × (l.steps ≤ 4096 * l.q)
