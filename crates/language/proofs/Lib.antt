@@ -1,4 +1,5 @@
 pub mod Ways
+pub mod Openers
 pub mod Depth
 pub mod Lines
 pub mod Sizes
