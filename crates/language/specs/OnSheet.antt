@@ -151,6 +151,10 @@ sequence (a ∷ others) = Act.then a (sequence others)
 abbrev pub acts_of : (ℕ → Act) → List Row → ℕ → ℕ → Act
 acts_of A rows p k = sequence (map A (starts rows p k))
 
+-- The statements that items are, one behind another.
+abbrev pub acts_in : (ℕ → Act) → Items → Act
+acts_in A items = acts_of A items.rows.now items.first items.count
+
 abbrev pub change_of : List Row → Change → Act
 change_of rows (Go s) = Act.go (word_at rows s)
 change_of rows Next = Act.next
