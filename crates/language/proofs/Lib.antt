@@ -5,3 +5,4 @@ pub mod Lines
 pub mod Sizes
 pub mod Readings
 pub mod OnSheets
+pub mod Tests
