@@ -29,10 +29,7 @@ pub fn rank(opener: Opener) -> u32
 pub fn sort_at(rows: &[Row], at: usize) -> Opener
     ensures { result ≡ sort (line_at rows.now at) }
 {
-    match opener_at(rows, at) {
-        Some(opener) => opener,
-        None => Opener::Kind,
-    }
+    opener_at(rows, at).unwrap_or(Opener::Kind)
 }
 
 // Whether the line at a row is of a sort.
