@@ -1,7 +1,9 @@
 -- How a text goes on that begins with the print of a list, and when it cannot.
-use Rattle.std.proofs.Common.{◌≡◌, ℕ, suc, ◌+◌, ◌-◌, ◌^◌, ◌<◌, ◌≤◌, Bool, true, List, [], ◌∷◌, ◌++◌, length, get_or, take, ℤ, pos, negsuc, Ok, Err, decimal, sym, refl, ap, ◌∙◌, append_assoc, arith, length-append, w32, SFits}
+use Rattle.std.proofs.Common.{◌≡◌, ℕ, suc, ◌+◌, ◌-◌, ◌^◌, ◌<◌, ◌≤◌, Bool, true, List, [], ◌∷◌, ◌++◌, length, get_or, take, ℤ, pos, negsuc, None, Ok, Err, decimal, Option, Result, sym, refl, ap, ◌∙◌, append_assoc, arith, length-append, w32, SFits}
+use lib.Signed.{mag}
 use Rattle.std.specs.Int.{IsInRange}
 use Rattle.std.specs.Fmt.{signed_decimal}
+use Rattle.std.specs.Option.{ok_or}
 use Rattle.std.specs.List.{prefix_len, AllByRecursion}
 use Rattle.std.proofs.ByRecursion.{All-from_get_or, All-push}
 use Rattle.std.proofs.lemmas.List.{append_cancel_left, drop_at, flat_map_more, take-append-drop, take_at}
@@ -17,6 +19,11 @@ use Rattle.numerals.proofs.Numbers.{base_ten}
 leading_run : (p : ℕ → Bool) (xs ys : List ℕ) → AllByRecursion (λ x. p x ≡ true) xs → prefix_len p ys ≡ 0 → prefix_len p (xs ++ ys) ≡ length xs
 leading_run p [] ys all stop = stop
 leading_run p (x ∷ xs) ys all stop = rw all.0 (omega (arith, leading_run p xs ys all.1 stop))
+
+-- A number of 32 bits is a small one.
+pub small : (v : ℤ) → SFits w32 v → mag v < 2 ^ 63
+small (pos n) fit = omega arith
+small (negsuc n) fit = omega arith
 
 -- The digits and the sign of a number stand inside it.
 digit_inside : (b : ℕ) → IsInRange 48 57 b → inside b ≡ true
@@ -39,18 +46,22 @@ module _ (v : ℤ) (vs : List ℤ) (rest : List ℕ) (fit : SFits w32 v) where
   run : length (signed_decimal v) ≡ prefix_len inside (signed_decimal v ++ ending vs rest)
   run = sym (leading_run inside (signed_decimal v) (ending vs rest) (inside_signed v fit) (ending_stops vs rest))
 
-  token_value : token (signed_decimal v ++ ending vs rest) ≡ signed_decimal v
+  pub token_value : token (signed_decimal v ++ ending vs rest) ≡ signed_decimal v
   token_value = take_at (signed_decimal v) (ending vs rest) _ run
 
-  behind_value : behind (signed_decimal v ++ ending vs rest) ≡ ending vs rest
+  pub behind_value : behind (signed_decimal v ++ ending vs rest) ≡ ending vs rest
   behind_value = drop_at (signed_decimal v) (ending vs rest) _ run
 
 -- A value more in an ending, and the head and an ending of a whole line.
-ending_more : (v : ℤ) (vs : List ℤ) (rest : List ℕ) → ending (v ∷ vs) rest ≡ 32 ∷ (signed_decimal v ++ ending vs rest)
+pub ending_more : (v : ℤ) (vs : List ℤ) (rest : List ℕ) → ending (v ∷ vs) rest ≡ 32 ∷ (signed_decimal v ++ ending vs rest)
 ending_more v vs rest = ap (λ x. 32 ∷ x) (append_assoc (signed_decimal v) (items vs) (41 ∷ 10 ∷ rest))
 
-shown_ending : (head : List ℕ) (vs : List ℤ) (rest : List ℕ) → shown_list head vs ++ rest ≡ 40 ∷ (head ++ ending vs rest)
+pub shown_ending : (head : List ℕ) (vs : List ℤ) (rest : List ℕ) → shown_list head vs ++ rest ≡ 40 ∷ (head ++ ending vs rest)
 shown_ending head vs rest = simp append_assoc
+
+-- Where a value is missing, what is told is that there is no list.
+pub no_value : {X : Type 0} (o : Option X) (e : ListError) → o ≡ None → ◌≡◌ {A = Result X ListError} (Err e) (ok_or o NotAList) → e ≡ NotAList
+no_value {X} o e none told = let same : ◌≡◌ {A = Result X ListError} (Err e) (Err NotAList) = told ∙ ap (λ x. ok_or x NotAList) none in cc
 
 -- No line goes on with a text that begins neither with a space nor with a closing bracket and a line feed.
 pub no_ending : (text : List ℕ) → ((rest : List ℕ) → text ≡ 32 ∷ rest → ⊥) → ((rest : List ℕ) → text ≡ 41 ∷ 10 ∷ rest → ⊥) → NoEnding text

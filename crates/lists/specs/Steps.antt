@@ -1,8 +1,8 @@
 -- The steps of reading a line: a front, the bytes of one number, a number, and the values up to the line's end.
-use Rattle.std.specs.Prelude.{◌≡◌, ℕ, Bool, not, ◌&&◌, List, ◌∷◌, ◌++◌, length, take, drop, ℤ, Some, None, Ok, Err, Option, Result, FitsSigned, ◌==◌, ◌≢◌, nat_lt, slice_index}
+use Rattle.std.specs.Prelude.{◌≡◌, ℕ, Bool, not, ◌||◌, List, ◌∷◌, ◌++◌, take, drop, ℤ, Some, None, Ok, Err, Option, Result, FitsSigned, ◌==◌, ◌≢◌}
 use Rattle.std.specs.Borrow.{Bor}
 use Rattle.std.specs.Int.{w32}
-use Rattle.std.specs.List.{prefix_len, AllByRecursion}
+use Rattle.std.specs.List.{position_or_len, AllByRecursion}
 use Rattle.lists.specs.declared.ListError.{ListError}
 use Rattle.lists.specs.declared.ListError.TheVariants.{NotAList, NoMemory}
 use Rattle.numerals.specs.Print.{items}
@@ -40,17 +40,16 @@ abbrev pub After : (front text : List ℕ) → Option (Bor (List ℕ)) → Type 
 After front text (Some rest) = text ≡ front ++ rest.now
 After front text None = (rest : List ℕ) → text ≢ front ++ rest
 
--- A zero stands in front of other bytes.
-abbrev pub padded : List ℕ → Bool
-padded bytes = nat_lt 1 (length bytes) && slice_index bytes 0 == 48
+-- A number ends before a space or a closing bracket; any other byte is inside it.
+abbrev pub ends : ℕ → Bool
+ends b = b == 32 || b == 41
 
--- A number ends before a space or a closing bracket.
 abbrev pub inside : ℕ → Bool
-inside b = not (b == 32) && not (b == 41)
+inside b = not (ends b)
 
 -- The bytes of a text before the first that ends a number, and those from it on.
 abbrev pub token : List ℕ → List ℕ
-token text = take (prefix_len inside text) text
+token text = take (position_or_len ends text) text
 
 abbrev pub behind : List ℕ → List ℕ
-behind text = drop (prefix_len inside text) text
+behind text = drop (position_or_len ends text) text

@@ -1,5 +1,5 @@
 -- The bytes that numbers and lists of numbers are printed as, and what an append of bytes does.
-use Rattle.std.specs.Prelude.{◌≡◌, ℕ, ◌<◌, List, [], ◌∷◌, ◌++◌, length, take, ℤ, Ok, Err, Result, slice_index, slice_index_or}
+use Rattle.std.specs.Prelude.{◌≡◌, ℕ, ◌^◌, ◌<◌, List, [], ◌∷◌, ◌++◌, length, take, ℤ, Ok, Err, decimal, Result, slice_index, slice_index_or}
 use Rattle.std.specs.List.{flat_map}
 use Rattle.std.specs.Str.Parse.{digits_value}
 use Rattle.std.specs.Int.{IsInRange}
@@ -11,6 +11,10 @@ pub record BaseTen (n : ℕ) (bytes : List ℕ) : Type 0 where
   pub digits : (i : ℕ) → i < length bytes → IsInRange 48 57 (slice_index bytes i)
   pub plain : slice_index_or bytes 0 0 ≡ 48 → length bytes ≡ 1
   pub writes : digits_value 10 bytes ≡ n
+
+-- The digits of each number of 64 bits are its digits in base ten.
+abbrev pub BaseTenDigits : Type 0
+BaseTenDigits = (n : ℕ) → n < 2 ^ 64 → BaseTen n (decimal n)
 
 -- For each value a space and its digits, a minus sign before those of a negative one.
 abbrev pub items : List ℤ → List ℕ

@@ -5,11 +5,11 @@ use std::test::Fail;
 #[test]
 fn numbers(rt: HostRuntime) -> Result<(), Fail> {
     let mut out = Vec::new(rt.alloc());
-    push_natural(&mut out, 0)?;
+    push_shown(&mut out, 0u64)?;
     out.push(b' ')?;
-    push_natural(&mut out, 18446744073709551615)?;
+    push_shown(&mut out, 18446744073709551615u64)?;
     out.push(b' ')?;
-    push_integer(&mut out, -2147483648)?;
+    push_shown(&mut out, -2147483648i32)?;
     assert!(rt; out.as_slice() == b"0 18446744073709551615 -2147483648".as_slice());
     Ok(())
 }
@@ -17,9 +17,9 @@ fn numbers(rt: HostRuntime) -> Result<(), Fail> {
 #[test]
 fn lists(rt: HostRuntime) -> Result<(), Fail> {
     let mut out = Vec::new(rt.alloc());
-    push_integers(&mut out, &[])?;
-    push_integers(&mut out, &[7])?;
-    push_integers(&mut out, &[-5, 0, 12])?;
+    push_shown(&mut out, Bracketed(&[]))?;
+    push_shown(&mut out, Bracketed(&[7]))?;
+    push_shown(&mut out, Bracketed(&[-5, 0, 12]))?;
     assert!(rt; out.as_slice() == b"()(7)(-5 0 12)".as_slice());
     Ok(())
 }

@@ -17,11 +17,8 @@ use Rattle.refusals.specs.declared.ScanRefusal.TheVariants.{OtherKind, Short, Do
 use Rattle.machine.specs.Scan.{World, Told, Scanned, steps, scan}
 use Rattle.refusals.specs.Numbers.{scan_number}
 use Rattle.machine.specs.Calls.{State, Scans, told, world}
-use Rattle.numerals.specs.Print.{Appended, Kept}
-use Rattle.numerals.proofs.Appends.{kept_after}
 use Rattle.lines.specs.Lines.{scan_line, refusal_line}
 use Rattle.playback.specs.Listing.{at_rest, listing, row_pins, row_scan}
-use Rattle.lines.proofs.Parts.{two_parts}
 use Rattle.playback.proofs.HostLines.{Wide, next_row_wide, printed, printed_rested, scan_lines}
 
 -- A code of the layout has at most 32 inputs, and at most 32 outputs.
@@ -70,53 +67,45 @@ module _ {V : Type 0} (k : Ops V) (code : List ℤ) (work : ℕ) where
   refusal_printed n ps (Divisor p) w = refl
   refusal_printed n ps (Stack p) w = refl
 
--- So far a listing was appended to the bytes of before; from scan n on, the readings that are left give the rest of it.
-pub record Listed {V : Type 0} (k : Ops V) (code : List ℤ) (work : ℕ) (all : List (Pins Spent)) (start : World V) (before after : List ℕ) (n : ℕ) (left : List (Pins Spent)) (w : World V) : Type 0 where
-  pub done : List ℕ
-  pub bytes : after ≡ before ++ done
+-- So far this was listed; from scan n on, the readings that are left give the rest of the listing.
+pub record Listed {V : Type 0} (k : Ops V) (code : List ℤ) (work : ℕ) (all : List (Pins Spent)) (start : World V) (done : List ℕ) (n : ℕ) (left : List (Pins Spent)) (w : World V) : Type 0 where
   pub goes_on : done ++ listing k code work n left w ≡ listing k code work 1 all start
 
-module _ {V : Type 0} {k : Ops V} {code : List ℤ} {work : ℕ} {all : List (Pins Spent)} {start : World V} {before : List ℕ} where
-  pub listed_none : Listed k code work all start before before 1 all start
-  listed_none = record { done = []; bytes = sym (append-nil before); goes_on = refl }
+module _ {V : Type 0} {k : Ops V} {code : List ℤ} {work : ℕ} {all : List (Pins Spent)} {start : World V} where
+  pub listed_none : (done : List ℕ) → done ≡ [] → Listed k code work all start done 1 all start
+  listed_none done none = record { goes_on = ap (λ z. z ++ listing k code work 1 all start) none }
 
-  pub listed_kept : {after : List ℕ} (more : List ℕ) {n : ℕ} {left : List (Pins Spent)} {w : World V} → Listed k code work all start before after n left w → Kept after more → Kept before more
-  listed_kept {after} more l kept = kept_after before l.done after more l.bytes kept
-
-  pub listed_all : {after : List ℕ} {n : ℕ} {left : List (Pins Spent)} {w : World V} → Listed k code work all start before after n left w → left ≡ [] → after ≡ before ++ listing k code work 1 all start
-  listed_all {n} {w} l none = l.bytes ∙ ap (λ z. before ++ z) (sym (append-nil l.done) ∙ ap (λ ps. l.done ++ listing k code work n ps w) (sym none) ∙ l.goes_on)
+  pub listed_all : {done : List ℕ} {n : ℕ} {left : List (Pins Spent)} {w : World V} → Listed k code work all start done n left w → left ≡ [] → done ≡ listing k code work 1 all start
+  listed_all {done} {n} {left} {w} l none = sym (append-nil done) ∙ ap (λ ps. done ++ listing k code work n ps w) (sym none) ∙ l.goes_on
 
 -- The row at the index i was scanned, where the code and the size of the working memory are as they were.
-module _ {V X : Type 0} {k : Ops V} {code : List ℤ} {work : ℕ} {all : List (Pins Spent)} {start : World V} {before after : List ℕ} {n : ℕ} {cells : List V} {board : Board} {scans : ℕ}
+module _ {V X : Type 0} {k : Ops V} {code : List ℤ} {work : ℕ} {all : List (Pins Spent)} {start : World V} {done : List ℕ} {n : ℕ} {cells : List V} {board : Board} {scans : ℕ}
     (items : X → List ℤ) (rows : List X) (i : ℕ) (row : X)
-    (l : Listed k code work all start before after n (map (λ x. row_pins code (items x)) (drop i rows)) (at_rest code cells board scans))
+    (l : Listed k code work all start done n (map (λ x. row_pins code (items x)) (drop i rows)) (at_rest code cells board scans))
     (less : i < length rows) (is : row ≡ get_or rows i row) (levels : List ℤ) (levels-are : levels ≡ items row)
     (code₁ : List ℤ) (work₁ : ℕ) (same_code : code₁ ≡ code) (same-work : work₁ ≡ work) (cells₁ : List V) (board₁ : Board) (scans₁ : ℕ)
   where
     -- What is printed from it on.
-    goes_on : (t : Told Spent) → (record { told = t; world = at_rest code₁ cells₁ board₁ scans₁ }) ≡ row_scan k code₁ work₁ levels (at_rest code₁ cells board scans) → l.done ++ printed k code work n (map (λ x. row_pins code (items x)) (drop (i + 1) rows)) (record { told = t; world = at_rest code cells₁ board₁ scans₁ }) ≡ listing k code work 1 all start
+    goes_on : (t : Told Spent) → (record { told = t; world = at_rest code₁ cells₁ board₁ scans₁ }) ≡ row_scan k code₁ work₁ levels (at_rest code₁ cells board scans) → done ++ printed k code work n (map (λ x. row_pins code (items x)) (drop (i + 1) rows)) (record { told = t; world = at_rest code cells₁ board₁ scans₁ }) ≡ listing k code work 1 all start
     goes_on t e =
         let ps = map (λ x. row_pins code (items x)) (drop (i + 1) rows) in
         let first : drop i rows ≡ row ∷ drop (i + 1) rows = drop_more rows i row less ∙ ap (λ x. x ∷ drop (i + 1) rows) (sym is) in
         let E = λ (c : List ℤ) (m : ℕ) (row : List ℤ). (record { told = t; world = at_rest c cells₁ board₁ scans₁ }) ≡ row_scan k c m row (at_rest c cells board scans) in
         let scanned : E code work (items row) = subst (E code work) levels-are (subst (λ m. E code m levels) same-work (subst (λ c. E c work₁ levels) same_code e)) in
-        ap (λ x. l.done ++ printed k code work n ps x) scanned
-        ∙ ap (λ z. l.done ++ z) (sym (printed_row k code work n (items row) ps cells board scans))
-        ∙ ap (λ xs. l.done ++ listing k code work n (map (λ x. row_pins code (items x)) xs) (at_rest code cells board scans)) (sym first)
+        ap (λ x. done ++ printed k code work n ps x) scanned
+        ∙ ap (λ z. done ++ z) (sym (printed_row k code work n (items row) ps cells board scans))
+        ∙ ap (λ xs. done ++ listing k code work n (map (λ x. row_pins code (items x)) xs) (at_rest code cells board scans)) (sym first)
         ∙ l.goes_on
 
     -- An accepted scan, and its line, are listed.
-    pub listed_more : (m : ℕ) (h : Head) (more : List ℕ) → (record { told = told {F = Spent} (Ok m); world = at_rest code₁ cells₁ board₁ scans₁ }) ≡ row_scan k code₁ work₁ levels (at_rest code₁ cells board scans) → h ≡ head code → more ≡ after ++ scan_line k h n cells₁ board₁ m → Listed k code work all start before more (n + 1) (map (λ x. row_pins code (items x)) (drop (i + 1) rows)) (at_rest code cells₁ board₁ scans₁)
+    pub listed_more : (m : ℕ) (h : Head) (more : List ℕ) → (record { told = told {F = Spent} (Ok m); world = at_rest code₁ cells₁ board₁ scans₁ }) ≡ row_scan k code₁ work₁ levels (at_rest code₁ cells board scans) → h ≡ head code → more ≡ done ++ scan_line k h n cells₁ board₁ m → Listed k code work all start more (n + 1) (map (λ x. row_pins code (items x)) (drop (i + 1) rows)) (at_rest code cells₁ board₁ scans₁)
     listed_more m h more e head_is line =
         let shown = scan_line k (head code) n cells₁ board₁ m in
-        record {
-          done = l.done ++ shown;
-          bytes = line ∙ ap (λ (x : Head). after ++ scan_line k x n cells₁ board₁ m) head_is ∙ ap (λ z. z ++ shown) l.bytes ∙ append_assoc before l.done shown;
-          goes_on = append_assoc l.done shown _ ∙ goes_on (steps m) e;
-        }
+        let rest = listing k code work (n + 1) (map (λ x. row_pins code (items x)) (drop (i + 1) rows)) (at_rest code cells₁ board₁ scans₁) in
+        record { goes_on = ap (λ z. z ++ rest) (line ∙ ap (λ (x : Head). done ++ scan_line k x n cells₁ board₁ m) head_is) ∙ append_assoc done shown rest ∙ goes_on (steps m) e }
 
     -- A refused scan, and its line, end the listing.
-    pub listed-refused : {U E : Type 0} (f : ScanRefusal Spent) (number : ℕ) (r : Result U E) (more : List ℕ) → (record { told = told (Err f); world = at_rest code₁ cells₁ board₁ scans₁ }) ≡ row_scan k code₁ work₁ levels (at_rest code₁ cells board scans) → number ≡ scan_number f → Appended after (refusal_line number n) r more → Appended before (listing k code work 1 all start) r more
-    listed-refused f number r more e is line =
+    pub listed-refused : (f : ScanRefusal Spent) (number : ℕ) (more : List ℕ) → (record { told = told (Err f); world = at_rest code₁ cells₁ board₁ scans₁ }) ≡ row_scan k code₁ work₁ levels (at_rest code₁ cells board scans) → number ≡ scan_number f → more ≡ done ++ refusal_line number n → more ≡ listing k code work 1 all start
+    listed-refused f number more e is line =
         let told-so = sym (refusal_printed k code work n _ f (at_rest code cells₁ board₁ scans₁)) in
-        two_parts before l.done (refusal_line number n) _ after more r l.bytes line (ap (λ m. l.done ++ refusal_line m n) is ∙ ap (λ z. l.done ++ z) told-so ∙ goes_on (told (Err f)) e)
+        line ∙ ap (λ m. done ++ refusal_line m n) is ∙ ap (λ z. done ++ z) told-so ∙ goes_on (told (Err f)) e

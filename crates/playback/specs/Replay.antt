@@ -1,7 +1,8 @@
 -- What is printed for an input of a stored code and rows.
-use Rattle.std.specs.Prelude.{◌≡◌, ℕ, ◌+◌, ◌<◌, ◌≤◌, List, ◌++◌, map, length, ℤ, pos, codes, FitsSigned}
+use Rattle.std.specs.Prelude.{◌≡◌, ℕ, ◌+◌, ◌<◌, ◌≤◌, List, ◌++◌, map, length, ℤ, pos, Some, None, Ok, Err, vec_items, codes, Option, Result, Vec, FitsSigned}
 use Rattle.std.specs.Int.{w32}
 use Rattle.std.specs.List.{AllByRecursion}
+use Rattle.std.specs.declared.alloc.Global.{Global}
 use Rattle.kinds.specs.Ops.{Ops}
 use Rattle.kinds.specs.Longs as Longs
 use Rattle.kinds.specs.Millis as Millis
@@ -9,10 +10,15 @@ use Rattle.hosts.specs.Meaning.{up}
 use Rattle.hosts.specs.declared.tape.Spent.{Spent}
 use Rattle.flat.specs.Words.{at, word}
 use Rattle.flat.specs.Layout.{Layout}
+use Rattle.refusals.specs.Numbers.{mount_number}
 use Rattle.numerals.specs.Print.{shown_list}
 use Rattle.lists.specs.Read.{NoList}
+use Rattle.lists.specs.declared.ListError.{ListError}
+use Rattle.lists.specs.declared.ListError.TheVariants.{NotAList, NoMemory as NoListMemory}
 use Rattle.lines.specs.Lines.{refusal_line}
 use Rattle.playback.specs.Listing.{beginning, listing}
+use Rattle.playback.specs.declared.replay.Unplayed.{Unplayed}
+use Rattle.playback.specs.declared.replay.Unplayed.TheVariants.{Unreadable, NotMounted, NoMemory}
 use Rattle.rows.specs.Rows.{WholeRows}
 
 -- The lines of a run of a code from its beginning, with a scan for each row: the row's levels stand at the pins. The working
@@ -46,3 +52,15 @@ limit = 1048576
 pub data Replayed (input : List ℕ) : List ℕ → Type 0 where
   too_long : limit < length input → Replayed input (refusal_line 0 0)
   in_limit : length input ≤ limit → (out : List ℕ) → Answered input out → Replayed input out
+
+-- Why nothing is played where a list is not read.
+abbrev pub unplayed : ListError → Unplayed
+unplayed NotAList = Unreadable
+unplayed NoListMemory = NoMemory
+
+-- What is printed of what was played, or for why nothing was; nothing where there is no memory.
+abbrev pub printed_for : Result (Vec ℕ Global) Unplayed → Option (List ℕ)
+printed_for (Ok out) = Some (vec_items out)
+printed_for (Err Unreadable) = Some (refusal_line 0 0)
+printed_for (Err (NotMounted e)) = Some (refusal_line (mount_number e) 0)
+printed_for (Err NoMemory) = None

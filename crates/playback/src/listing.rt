@@ -1,56 +1,94 @@
 // A live run, scanned once for each row of levels, and what is printed of it.
-ghost use Rattle.std.specs.Prelude.{◌≡◌, map, length};
+ghost use Rattle.std.specs.Prelude.{◌≡◌, true, map, replicate, length, IfOk};
 ghost use Rattle.flat.specs.Layout.{Holds};
 ghost use Rattle.machine.specs.Calls.{told};
-ghost use Rattle.numerals.specs.Print.{Appended};
-ghost use Rattle.playback.specs.Listing.{at_rest, listing, row_pins, row_scan};
+ghost use Rattle.machine.specs.Scan.{same_word};
+ghost use Rattle.playback.specs.Listing.{listing, row_pins, row_scan};
+ghost use Rattle.playback.specs.Players.{Begun, standing};
 
 use board::Board;
 use hosts::tape::{Spent, Tape};
 use kinds::Kind;
-use lines::{push_refusal_line, push_scan_line};
+use lines::{RefusalLine, push_scan_line};
 use machine::live::Live;
+use machine::mounted::Mounted;
+use numerals::push_shown;
 use refusals::ScanRefusal;
 use std::alloc::{AllocError, Global};
 
-// Scans once, with just this row at the pins.
-fn scan_row<K: Kind>(
-    live: &mut Live,
-    row: &[i32],
-    cells: &mut [K],
-    work: &mut [K],
-    board: &mut Board,
-) -> Result<u32, ScanRefusal<Spent>>
-    requires { Holds live.old.code.now live.old.head }
-    ensures result { (record { told = told result; world = at_rest live.old.code.now cells.new board.new live.new.scans }) ≡ row_scan K.ops live.old.code.now (length work.old) row.now (at_rest live.old.code.now cells.old board.old live.old.scans) }
-    ensures code { live.new.code.now ≡ live.old.code.now }
-    ensures head { live.new.head ≡ live.old.head }
+// So many cells at zero. They are filled up by resize, since vec! clones, and of a kind's clones nothing is known.
+fn zeros<K: Kind>(heap: Global, n: usize) -> Result<Vec<K>, AllocError>
+    ensures { IfOk result (λ v. v.items ≡ replicate n K.ops.zero) }
 {
-    let mut tape = Tape::new(row, live.head().inputs);
-    live.scan(cells, work, board, &mut tape)
+    let mut cells = Vec::new(heap);
+    cells.resize(n, K::zero())?;
+    Ok(cells)
 }
 
-// Scans once for each row, or to the first refusal, and appends a line for each scan.
-pub(crate) fn list_scans<K: Kind>(
-    heap: Global,
-    out: &mut Vec<u8>,
-    live: &mut Live,
-    rows: &[Vec<i32>],
-    cells: &mut [K],
-    work: &mut [K],
-    board: &mut Board,
-) -> Result<(), AllocError>
-    requires { Holds live.old.code.now live.old.head }
-    ensures { Appended out.old.items (listing K.ops live.old.code.now (length work.old) 1 (map (λ row. row_pins live.old.code.now row.items) rows.now) (at_rest live.old.code.now cells.old board.old live.old.scans)) result out.new.items }
-{
-    let head = live.head();
-    let mut n = 0;
-    for row in rows {
-        n += 1;
-        match scan_row(live, row, cells, work, board) {
-            Ok(steps) => push_scan_line(heap, out, &head, n, cells, board, steps)?,
-            Err(refusal) => return push_refusal_line(out, refusal.number(), n),
-        }
+// A live run with what it is lent: the cells, the working memory and the board.
+#[derive(Drop)]
+pub(crate) struct Player<'a, K: Kind> {
+    pub live: Live<'a>,
+    pub cells: Vec<K>,
+    pub work: Vec<K>,
+    pub board: Board,
+}
+
+impl<'a, K: Kind> Player<'a, K> {
+    // A run of the mounted code from its beginning, lent just what it needs.
+    pub(crate) fn begin(heap: Global, mounted: Mounted<'a>) -> Result<Player<'a, K>, AllocError>
+        requires mounted { Holds mounted.code.now mounted.head }
+        requires kind { same_word mounted.head.kind K.ops.number ≡ true }
+        ensures { IfOk result (Begun K.ops mounted.entry.code.now) }
+    {
+        let head = mounted.head();
+        let mut cells = zeros(heap, head.cells)?;
+        let work = zeros(heap, head.cells + 16)?;
+        let mut board = Board::new();
+        let mut tape = Tape::new(&[], head.inputs);
+        let Ok(live) = mounted.start(&mut cells, &mut board, &mut tape) else {
+            unreachable()
+        };
+        Ok(Player {
+            live,
+            cells,
+            work,
+            board,
+        })
     }
-    Ok(())
+
+    // Scans once, with just this row at the pins.
+    fn scan_row(&mut self, row: &[i32]) -> Result<u32, ScanRefusal<Spent>>
+        requires { Holds self.old.live.code.now self.old.live.head }
+        ensures result { (record { told = told result; world = standing self.old.live.code.now self.new }) ≡ row_scan K.ops self.old.live.code.now (length self.old.work.items) row.now (standing self.old.live.code.now self.old) }
+        ensures code { self.new.live.code.now ≡ self.old.live.code.now }
+        ensures head { self.new.live.head ≡ self.old.live.head }
+        ensures room { length self.new.work.items ≡ length self.old.work.items }
+    {
+        let mut tape = Tape::new(row, self.live.head().inputs);
+        self.live.scan(&mut self.cells, &mut self.work, &mut self.board, &mut tape)
+    }
+
+    // Scans once for each row, or to the first refusal, and gives a line for each scan.
+    pub(crate) fn list(mut self, heap: Global, rows: &[Vec<i32>]) -> Result<Vec<u8>, AllocError>
+        requires { Holds self.live.code.now self.live.head }
+        ensures { IfOk result (λ out. out.items ≡ listing K.ops self.entry.live.code.now (length self.entry.work.items) 1 (map (λ row. row_pins self.entry.live.code.now row.items) rows.now) (standing self.entry.live.code.now self.entry)) }
+    {
+        let head = self.live.head();
+        let mut out = Vec::new(heap);
+        for (i, row) in rows.iter().enumerate() {
+            let at = i as u64 + 1;
+            match self.scan_row(row) {
+                Ok(steps) => {
+                    push_scan_line(heap, &mut out, &head, at, &self.cells, &self.board, steps)?
+                }
+                Err(refusal) => {
+                    let number = refusal.number();
+                    push_shown(&mut out, RefusalLine { number, at })?;
+                    return Ok(out);
+                }
+            }
+        }
+        Ok(out)
+    }
 }

@@ -1,42 +1,63 @@
 // A stored code and rows of levels, from bytes to the lines that are printed.
-ghost use Rattle.std.specs.Prelude.{◌≡◌, true, map, replicate, IfOk, vec_items};
+ghost use Rattle.std.specs.Prelude.{◌≡◌, true, map, IfOk, IfSome, IsErr, MatchOption, vec_items};
 ghost use Rattle.flat.specs.Layout.{Holds};
 ghost use Rattle.machine.specs.Scan.{same_word};
-ghost use Rattle.lines.specs.Lines.{refusal_line};
 ghost use Rattle.playback.specs.Listing.{printed_rows};
-ghost use Rattle.playback.specs.Replay.{Answered, Ran, Replayed};
+ghost use Rattle.playback.specs.Replay.{Ran, Replayed, unplayed, printed_for};
+ghost use Rattle.playback.specs.declared.replay.Unplayed.TheVariants.{NotMounted, NoMemory};
 
-use crate::listing::list_scans;
-use board::Board;
-use hosts::tape::Tape;
+use crate::listing::Player;
+use flat::kind::CellKind;
 use kinds::Kind;
 use kinds::long::Long;
 use kinds::milli::Milli;
-use lines::push_refusal_line;
+use lines::RefusalLine;
 use lists::{ListError, read_list};
 use machine::mounted::{Mounted, mount};
+use refusals::MountRefusal;
 use rows::read_rows;
 use std::alloc::{AllocError, Global};
 
 // The most bytes that an input may have.
 pub const LIMIT: usize = 1048576;
 
-// The line of a refusal before any scan.
-fn refused(heap: Global, number: u32) -> Result<Vec<u8>, AllocError>
-    ensures { IfOk result (λ out. out.items ≡ refusal_line number 0) }
-{
-    let mut out = Vec::new(heap);
-    push_refusal_line(&mut out, number, 0)?;
-    Ok(out)
+// Why nothing is played: the input is too long, or no code line with whole rows behind it; or its code is not mounted; or there is no
+// memory.
+#[derive(Clone, Copy)]
+enum Unplayed {
+    Unreadable,
+    NotMounted(MountRefusal),
+    NoMemory,
 }
 
-// So many cells at zero.
-fn zeros<K: Kind>(heap: Global, n: usize) -> Result<Vec<K>, AllocError>
-    ensures { IfOk result (λ v. v.items ≡ replicate n K.ops.zero) }
-{
-    let mut cells = Vec::new(heap);
-    cells.resize(n, K::zero())?;
-    Ok(cells)
+// A line that is not read.
+impl From<ListError> for Unplayed {
+    ghost from_gives = { λ e u. u ≡ unplayed e };
+
+    fn from(e: ListError) -> Unplayed {
+        match e {
+            ListError::NotAList => Unplayed::Unreadable,
+            ListError::NoMemory => Unplayed::NoMemory,
+        }
+    }
+}
+
+// A code that is not mounted.
+impl From<MountRefusal> for Unplayed {
+    ghost from_gives = { λ e u. u ≡ NotMounted e };
+
+    fn from(e: MountRefusal) -> Unplayed {
+        Unplayed::NotMounted(e)
+    }
+}
+
+// No memory.
+impl From<AllocError> for Unplayed {
+    ghost from_gives = { λ _ u. u ≡ NoMemory };
+
+    fn from(_e: AllocError) -> Unplayed {
+        Unplayed::NoMemory
+    }
 }
 
 // The lines of a run of the mounted code, with a scan for each row.
@@ -45,59 +66,61 @@ fn play<K: Kind>(heap: Global, mounted: Mounted, rows: &[Vec<i32>]) -> Result<Ve
     requires kind { same_word mounted.head.kind K.ops.number ≡ true }
     ensures { IfOk result (λ out. out.items ≡ printed_rows K.ops mounted.entry.code.now (map vec_items rows.now)) }
 {
+    let player = Player::<K>::begin(heap, mounted)?;
+    player.list(heap, rows)
+}
+
+// The lines of a run of a code through the rows that the text behind it is, or why it is not played.
+fn run(heap: Global, code: &[i32], text: &[u8]) -> Result<Vec<u8>, Unplayed>
+    ensures { IfSome (printed_for result) (Ran code.now text.now) }
+{
+    let mounted = mount(code)?;
     let head = mounted.head();
-    let mut cells = zeros::<K>(heap, head.cells)?;
-    let mut work = zeros::<K>(heap, head.cells + 16)?;
-    let mut board = Board::new();
-    let mut tape = Tape::new(&[], head.inputs);
-    let mut out = Vec::new(heap);
-    match mounted.start(&mut cells, &mut board, &mut tape) {
-        Ok(mut live) => list_scans(
-            heap, &mut out, &mut live, rows, &mut cells, &mut work, &mut board,
-        )?,
+    let rows = read_rows(heap, text, head.inputs)?;
+    match CellKind::try_from(head.kind) {
+        Ok(CellKind::Long) => Ok(play::<Long>(heap, mounted, &rows)?),
+        Ok(CellKind::Milli) => Ok(play::<Milli>(heap, mounted, &rows)?),
         Err(_) => unreachable(),
     }
-    Ok(out)
+}
+
+// What an input of a code line and rows gives, or why it is not played.
+fn played(heap: Global, input: &[u8]) -> Result<Vec<u8>, Unplayed>
+    ensures { IfSome (printed_for result) (Replayed input.now) }
+{
+    if input.len() > LIMIT {
+        return Err(Unplayed::Unreadable);
+    }
+    let mut code = Vec::new(heap);
+    let n = read_list(input, b"code", &mut code)?;
+    run(heap, &code, &input[n..])
+}
+
+// What is printed of what was played: its lines, or the line of the refusal.
+fn printed(heap: Global, played: Result<Vec<u8>, Unplayed>) -> Result<Vec<u8>, AllocError>
+    ensures { MatchOption (printed_for played) (IsErr result) (λ bytes. IfOk result (λ out. out.items ≡ bytes)) }
+{
+    match played {
+        Ok(out) => Ok(out),
+        Err(Unplayed::Unreadable) => RefusalLine::UNREADABLE.into_bytes(heap),
+        Err(Unplayed::NotMounted(refusal)) => {
+            let number = refusal.number();
+            RefusalLine { number, at: 0 }.into_bytes(heap)
+        }
+        Err(Unplayed::NoMemory) => Err(AllocError),
+    }
 }
 
 // What is printed for a code and the text behind it.
 pub fn run_code(heap: Global, code: &[i32], text: &[u8]) -> Result<Vec<u8>, AllocError>
     ensures { IfOk result (λ out. Ran code.now text.now out.items) }
 {
-    let mounted = match mount(code) {
-        Ok(mounted) => mounted,
-        Err(refusal) => return refused(heap, refusal.number()),
-    };
-    let head = mounted.head();
-    let Some(rows) = read_rows(heap, text, head.inputs)? else {
-        return refused(heap, 0);
-    };
-    if head.kind == Long::NUMBER {
-        play::<Long>(heap, mounted, &rows)
-    } else {
-        play::<Milli>(heap, mounted, &rows)
-    }
-}
-
-// What is printed for an input within the limit.
-fn answer(heap: Global, input: &[u8]) -> Result<Vec<u8>, AllocError>
-    ensures { IfOk result (λ out. Answered input.now out.items) }
-{
-    let mut code = Vec::new(heap);
-    match read_list(input, b"code", &mut code) {
-        Ok(n) => run_code(heap, &code, &input[n..]),
-        Err(ListError::NotAList) => refused(heap, 0),
-        Err(ListError::NoMemory) => Err(AllocError),
-    }
+    printed(heap, run(heap, code, text))
 }
 
 // What is printed for an input: the lines of the run of a stored code through rows, or the line of a refusal.
 pub fn replay(heap: Global, input: &[u8]) -> Result<Vec<u8>, AllocError>
     ensures { IfOk result (λ out. Replayed input.now out.items) }
 {
-    if input.len() > LIMIT {
-        refused(heap, 0)
-    } else {
-        answer(heap, input)
-    }
+    printed(heap, played(heap, input))
 }

@@ -1,12 +1,14 @@
 -- Rows read one after another.
-use Rattle.std.proofs.Common.{◌≡◌, ℕ, ◌-◌, ◌<◌, ◌≤◌, true, false, eqb, List, [], ◌∷◌, ◌++◌, map, length, take, drop, ℤ, Ok, codes, sym, refl, ap, ◌∙◌, subst, append_assoc, arith, length-append, w32, SFits}
+use Rattle.std.proofs.Common.{◌≡◌, ℕ, ◌-◌, ◌<◌, ◌≤◌, true, false, eqb, List, [], ◌∷◌, ◌++◌, map, length, take, drop, ℤ, Ok, Err, codes, sym, refl, ap, ◌∙◌, subst, append_assoc, arith, length-append, w32, SFits}
 use Rattle.std.specs.List.{AllByRecursion}
 use Rattle.std.proofs.ByRecursion.{All-push}
 use Rattle.std.proofs.lemmas.List.{append-nil, flat_map_more, map_push, nil_from_length, take-append-drop, take_rest}
 use Rattle.std.proofs.lemmas.Bool.{eqb-false, eqb-true}
 use Rattle.numerals.specs.Print.{shown_list}
+use Rattle.lists.specs.declared.ListError.{ListError}
+use Rattle.lists.specs.declared.ListError.TheVariants.{NotAList, NoMemory}
 use Rattle.lists.specs.Read.{ListRead, Shown}
-use Rattle.rows.specs.Rows.{RowOf, WholeRows, shown_row_line, shown_rows}
+use Rattle.rows.specs.Rows.{RowFound, RowOf, RowsFound, WholeRows, shown_row_line, shown_rows}
 use Rattle.rows.proofs.Prints.{print_tells}
 
 -- A list was read to where nothing was before: its values are there now, and with what follows it makes up the text.
@@ -25,6 +27,11 @@ pub other_width : (width : ℕ) (text : List ℕ) (before vs : List ℤ) (n : �
 other_width width text before vs n read empty other row rest of_width e =
     let whole = read_whole (codes "row") text before vs n read empty in
     other (ap length (print_tells (codes "row") vs row (take (length text - n) (drop n text)) rest (read_fit (codes "row") text before vs n read empty) of_width.1 (sym whole ∙ e)).0 ∙ of_width.0)
+
+-- There is no row where there is no list.
+pub row_refused : (width : ℕ) (text : List ℕ) (before after : List ℤ) (e : ListError) → ListRead (codes "row") text before (Err e) after → RowFound width text (Err e)
+row_refused width text before after NotAList none = λ row rest of_width. none row rest of_width.1
+row_refused width text before after NoMemory none = tt
 
 -- No rows of the width make up the text.
 abbrev pub NoRows : ℕ → List ℕ → Type 0
@@ -67,8 +74,13 @@ passed_all width text left rows some p none = record {
 }
 
 -- Something is left that begins with no row.
-pub passed_no_row : (width : ℕ) (text left : List ℕ) (rows : List (List ℤ)) → PassedRows width text left rows → false ≡ eqb (length left) 0 → ((row : List ℤ) (rest : List ℕ) → RowOf width row → left ≡ shown_row_line row ++ rest → ⊥) → (all : List (List ℤ)) → WholeRows width text all → ⊥
+passed_no_row : (width : ℕ) (text left : List ℕ) (rows : List (List ℤ)) → PassedRows width text left rows → false ≡ eqb (length left) 0 → ((row : List ℤ) (rest : List ℕ) → RowOf width row → left ≡ shown_row_line row ++ rest → ⊥) → (all : List (List ℤ)) → WholeRows width text all → ⊥
 passed_no_row width text left rows p some none all whole = p.decides no_left all whole.each whole.print where
   no_left : NoRows width left
   no_left [] each e = eqb-false (length left) 0 (sym some) (ap length e)
   no_left (r ∷ rs) each e = none r (shown_rows rs) each.0 e
+
+-- So where the row that comes next is refused, the rows are.
+pub rows_refused : (width : ℕ) (text left : List ℕ) (rows : List (List ℤ)) (e : ListError) → PassedRows width text left rows → false ≡ eqb (length left) 0 → RowFound width left (Err e) → RowsFound width text (Err e)
+rows_refused width text left rows NotAList p some none = passed_no_row width text left rows p some none
+rows_refused width text left rows NoMemory p some none = tt

@@ -4,22 +4,24 @@ use Rattle.std.specs.List.{prefix_len}
 use Rattle.std.proofs.lemmas.Int.{to_z-of_z}
 use Rattle.std.proofs.lemmas.Result.{err_from_is_err_and}
 use Rattle.lists.specs.Steps.{inside}
-use Rattle.lists.proofs.Lines.{no_ending_after, passed_kept, passed_more}
+use Rattle.lists.proofs.Lines.{no_ending_after, no_value, passed_kept, passed_more}
 use Rattle.lists.proofs.read_values.Goals as goal
 
-pub returns-in_default-integer : goal.returns-in_default-integer
-returns-in_default-integer c = record {
-  answer =
-      c.loop-item.invariant.decides
-      (no_ending_after c.loop-item.left.now c.in-Some.item.now c.in-Some.ensures
-      (λ v vs rest fit fits t b. c.in_default-integer.ensures v fit (c.split_token.ensures.token ∙ t)));
-  kept = search (rules, passed_kept);
-}
-
-pub returns-in_err-push : goal.returns-in_err-push
-returns-in_err-push c =
+pub returns-in_err-ok_or-clause-answer : goal.returns-in_err-ok_or-clause-answer
+returns-in_err-ok_or-clause-answer c =
     let p = err_from_is_err_and c.from_residual.result c.from_residual.ensures.1 in
-    record { answer = rw (p.1, p.2) tt; kept = rw c.in_err-push.ensures.items (passed_kept _ _ _ _ c.loop-item.invariant) }
+    let none = rw c.in_err-ok_or.ensures.ok_part at c.integer.ensures in
+    rw (p.1, p.2, no_value c.integer.result c.in_err-ok_or.field-0.0 c.in_err-ok_or.ensures.ok_part c.in_err-ok_or.ensures.value)
+    (c.loop-item.invariant.decides
+    (no_ending_after c.loop-item.left.now c.in-Some.item.now c.in-Some.ensures
+    (λ v vs rest fit fits t b. none v fit (c.split_token.ensures.token ∙ t))))
+
+pub returns-in_err-push-clause-answer : goal.returns-in_err-push-clause-answer
+returns-in_err-push-clause-answer c =
+    let p = err_from_is_err_and c.from_residual-in_err-push.result c.from_residual-in_err-push.ensures.1 in rw (p.1, p.2) tt
+
+pub returns-in_err-push-clause-kept : goal.returns-in_err-push-clause-kept
+returns-in_err-push-clause-kept c = rw c.in_err-push.ensures.items (passed_kept _ _ _ _ c.loop-item.invariant)
 
 pub loop-item-smaller : goal.loop-item-smaller
 loop-item-smaller c =
@@ -27,9 +29,10 @@ loop-item-smaller c =
 
 pub loop-item-preserved : goal.loop-item-preserved
 loop-item-preserved c =
-    let value = c.in-Some-integer.ensures in
-    let pushed = simp (to_z-of_z w32 c.in-Some-integer.v value.0) at c.in_ok-push.ensures.items in
-    passed_more c.args.text.now c.loop-item.left.now c.in-Some.item.now c.split_token.result.0.now c.split_token.result.1.now (vec_items c.args.values.now) (vec_items c.loop-item.values) (vec_items c.push.new.self) c.in-Some-integer.v
+    let v = c.in_ok-ok_or.field-0 in
+    let value = rw c.in_ok-ok_or.ensures.ok_part at c.integer.ensures in
+    let pushed = simp (to_z-of_z w32 v value.0) at c.in_ok-push.ensures.items in
+    passed_more c.args.text.now c.loop-item.left.now c.in-Some.item.now c.split_token.result.0.now c.split_token.result.1.now (vec_items c.args.values.now) (vec_items c.loop-item.values) (vec_items c.push.new.self) v
     c.loop-item.invariant c.in-Some.ensures c.split_token.ensures.token c.split_token.ensures.behind value.0 value.1 pushed
 
 pub returns : goal.returns
