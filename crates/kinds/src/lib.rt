@@ -6,8 +6,7 @@ pub mod milli;
 pub mod rounding;
 pub mod worked;
 
-ghost use Rattle.std.specs.Prelude.{◌≡◌, ℤ, Bool, true, false, not};
-ghost use Rattle.std.specs.Ordering.{partial_lt};
+ghost use Rattle.std.specs.Prelude.{◌≡◌, ℤ, Bool, true, false};
 ghost use Rattle.kinds.specs.Ops.{Ops, flag};
 
 // Why a division has no quotient.
@@ -18,7 +17,7 @@ pub enum NoQuotient {
 }
 
 // A kind of cell; the type that implements it is what a cell holds. `ops` is its meaning, and each function answers by it.
-pub trait Kind: Copy + PartialOrd {
+pub trait Kind: Copy {
     ghost ops: { Ops Self };
 
     // The kind's number, as the first word of a flat code has it.
@@ -42,12 +41,10 @@ pub trait Kind: Copy + PartialOrd {
     fn one() -> Self
         ensures { result ≡ ops.one };
 
-    // Whether a value counts as true.
+    // Whether a value counts as true. This and the two comparisons are each kind's own, though two kinds answer alike: a body here would need a law that
+    // truth and order are those of the values, and the theorems about every kind would then hold of fewer.
     fn is_true(self) -> bool
-        ensures { result ≡ ops.truth self }
-    {
-        self != Self::zero()
-    }
+        ensures { result ≡ ops.truth self };
 
     // The value that a raw number stands for.
     fn read(raw: i32) -> Self
@@ -75,29 +72,14 @@ pub trait Kind: Copy + PartialOrd {
 
     // Whether this is below the other.
     fn less(self, than: Self) -> bool
-        ensures { result ≡ ops.less self than }
-    {
-        self < than
-    }
+        ensures { result ≡ ops.less self than };
 
     // Whether the two are equal.
     fn same(self, to: Self) -> bool
-        ensures { result ≡ ops.same self to }
-    {
-        self == to
-    }
+        ensures { result ≡ ops.same self to };
 
     // The kind's number is the one in its meaning.
     ghost number_is: { NUMBER ≡ ops.number };
-
-    // What counts as true is what differs from the kind's zero.
-    ghost truth_is: { (a : Self) → ops.truth a ≡ not (Self.eq a ops.zero) };
-
-    // The order of the values is the kind's.
-    ghost less_is: { (a b : Self) → ops.less a b ≡ partial_lt Self.partial_cmp a b };
-
-    // So is their equality.
-    ghost same_is: { (a b : Self) → ops.same a b ≡ Self.eq a b };
 
     // The kind's one is true.
     ghost one_true: { ops.truth ops.one ≡ true };

@@ -21,12 +21,6 @@ impl Kind for Long {
 
     ghost number_is = { Prim.search rules };
 
-    ghost truth_is = { Prim.search rules };
-
-    ghost less_is = { Prim.search rules };
-
-    ghost same_is = { Prim.search rules };
-
     ghost one_true = { Prim.search rules };
 
     ghost zero_untrue = { Prim.search rules };
@@ -39,6 +33,11 @@ impl Kind for Long {
     // One.
     fn one() -> Long {
         Long(1)
+    }
+
+    // Only zero is untrue.
+    fn is_true(self) -> bool {
+        self != Self::zero()
     }
 
     // A raw number is the value.
@@ -72,5 +71,15 @@ impl Kind for Long {
             return Err(NoQuotient::ZeroDivisor);
         }
         Ok(Long(self.0.wrapping_div(by.0)))
+    }
+
+    // Whether this is below the other.
+    fn less(self, than: Long) -> bool {
+        self < than
+    }
+
+    // Whether the two are equal.
+    fn same(self, to: Long) -> bool {
+        self == to
     }
 }

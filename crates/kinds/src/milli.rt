@@ -22,12 +22,6 @@ impl Kind for Milli {
 
     ghost number_is = { Prim.search rules };
 
-    ghost truth_is = { Prim.search rules };
-
-    ghost less_is = { Prim.search rules };
-
-    ghost same_is = { Prim.search rules };
-
     ghost one_true = { Prim.search rules };
 
     ghost zero_untrue = { Prim.search rules };
@@ -40,6 +34,11 @@ impl Kind for Milli {
     // A thousand thousandths.
     fn one() -> Milli {
         Milli(WHOLE)
+    }
+
+    // Only zero is untrue.
+    fn is_true(self) -> bool {
+        self != Self::zero()
     }
 
     // A raw number is the value.
@@ -75,5 +74,15 @@ impl Kind for Milli {
         }
         let dividend = rounding::product(WHOLE, self.0);
         Ok(Milli(rounding::stop(rounding::nearest(dividend, i64::from(by.0)))))
+    }
+
+    // Whether this is below the other.
+    fn less(self, than: Milli) -> bool {
+        self < than
+    }
+
+    // Whether the two are equal.
+    fn same(self, to: Milli) -> bool {
+        self == to
     }
 }
