@@ -5,7 +5,7 @@ ghost use Rattle.bodies.specs.Sweep.{visit as visited, sweep as swept};
 ghost use Rattle.bodies.specs.Memory.{meaning, ran, sweeps, Runnable};
 
 use crate::running::{Running, Turn};
-use flat::words::{PROCESSES, count_at, instructions_from, process_place};
+use flat::words::{PROCESSES, count_at, entry_place, instructions_from, process_place};
 use kinds::Kind;
 use refusals::{Fault, GivenUp, Place};
 
@@ -20,11 +20,10 @@ impl<K: Kind> Running<'_, K> {
         ensures kept { IfOk result (λ n. length self.new.cells.now ≡ length self.old.cells.now) }
     {
         let s = self.board.state(q) as usize;
-        let place = process_place(q);
-        if s >= count_at(code, place) {
+        if s >= count_at(code, process_place(q)) {
             return Ok(0);
         }
-        let entry = count_at(code, place + 1 + s);
+        let entry = count_at(code, entry_place(q, s));
         self.depth = 0;
         let turn = Turn { seen, process: q };
         self.run(turn, instructions_from(code, entry), entry)
