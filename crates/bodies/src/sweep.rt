@@ -10,7 +10,8 @@ use kinds::Kind;
 use refusals::{Fault, GivenUp, Place};
 
 impl<K: Kind> Running<'_, K> {
-    // Runs the body of the state that process `q` has, if that is among its states.
+    // Runs the body of the state that process `q` has, if that is among its states. The code stays a slice with a clause: a
+    // struct that says it can be run would be made in `advance` alone, for this function and the next.
     fn visit(&mut self, code: &[i32], seen: &[i32; 32], q: usize) -> Result<u32, Fault>
         requires layout { Runnable code.now }
         requires process { q < word code.now 5 }
