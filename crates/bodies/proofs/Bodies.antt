@@ -1,5 +1,5 @@
 -- Laws of a body's run.
-use Rattle.std.proofs.Common.{◌≡◌, ℕ, zero, suc, ◌+◌, ◌-◌, ◌*◌, ◌<◌, ◌≤◌, Bool, true, false, cond, ltb, List, [], ◌∷◌, length, get_or, drop, ℤ, pos, Ok, Err, Result, sym, refl, ap, ◌∙◌, subst, add-zero, arith}
+use Rattle.std.proofs.Common.{◌≡◌, ℕ, zero, suc, ◌+◌, ◌-◌, ◌*◌, ◌≤◌, Bool, true, false, cond, ltb, List, [], ◌∷◌, length, get_or, drop, ℤ, pos, Ok, Err, Result, sym, refl, ap, ◌∙◌, subst, add-zero, arith}
 use Rattle.std.proofs.Math.ListN.{length-set}
 use Rattle.kinds.specs.Ops.{Ops}
 use Rattle.kinds.specs.declared.NoQuotient.{NoQuotient}
@@ -7,7 +7,7 @@ use Rattle.flat.specs.Instructions.{decoded}
 use Rattle.flat.specs.declared.instr.Instr.{Instr}
 use Rattle.flat.specs.declared.instr.Instr.TheVariants.{End, Push, Convert, Combine, Jump, Unless, Keep, Drive, Set}
 use Rattle.bodies.specs.Machine.{Machine, Outcome, over, skip, no_quotient, no_room, step, with_stack, top_of, push, push_result, combined}
-use Rattle.bodies.specs.Body.{done, run, follow}
+use Rattle.bodies.specs.Body.{run, follow}
 use Rattle.bodies.specs.Memory.{InRange, Inside, Sound}
 
 -- an outcome passes over at most half of `size` words, and leaves so many cells
@@ -54,15 +54,6 @@ module _ {V : Type 0} (k : Ops V) (seen : List ℤ) (p : ℕ) where
   run_turn at [] steps m h = absurd (omega arith)
   run_turn at (op ∷ []) steps m h = absurd (omega arith)
   run_turn at (op ∷ (x ∷ rest)) steps m h = refl
-
-  -- fewer than two words are left
-  pub run_off :
-      (at : ℕ) (left : List ℤ) (n steps : ℕ) (m : Machine V)
-      → length left < 2
-      → run k seen p at left n steps m ≡ done steps m
-  run_off at [] n steps m h = refl
-  run_off at (op ∷ []) n steps m h = refl
-  run_off at (op ∷ (x ∷ rest)) n steps m h = absurd (omega arith)
 
   -- instructions passed over
   pub run_skip :

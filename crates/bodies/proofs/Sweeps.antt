@@ -11,12 +11,6 @@ use Rattle.bodies.specs.Body.{Ran, done}
 use Rattle.bodies.specs.Sweep.{visit, no_divisor, no_stack, onward, sweep}
 use Rattle.bodies.specs.Memory.{ran, given_up, Sound, Runnable}
 
--- an entry read by its place
-pub entry_read : (code : List ℤ) (q s e place : ℕ) → place ≡ 7 + 17 * q → e ≡ word code (place + 1 + s) → e ≡ entry code q s
-entry_read code q s e place h is =
-    let p : place + 1 + s ≡ 8 + 17 * q + s = omega arith in
-    is ∙ ap (word code) p
-
 -- what the run of a body asks
 pub body_sound :
     (code : List ℤ) (q s e base : ℕ) (words : List ℤ)

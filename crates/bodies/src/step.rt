@@ -12,11 +12,17 @@ use refusals::Fault;
 // The most values on the stack.
 const MAX_DEPTH: usize = 16;
 
+// The state of a process that was stopped.
+const STOPPED: u8 = 255;
+
+// The state of a process that failed.
+const FAILED: u8 = 254;
+
 // Whether a process in state `s` is stopped or failed.
 fn is_passive(s: u8) -> bool
     ensures { result ≡ passive s }
 {
-    matches!(s, 254 | 255)
+    matches!(s, FAILED | STOPPED)
 }
 
 // A value by an operation on it.
@@ -51,8 +57,8 @@ fn control(board: &mut Board, p: usize, c: Control)
     match c {
         Control::State(s) => board.enter(p, s as u8),
         Control::Start(q) => board.enter(q, 0),
-        Control::Stop(q) => board.enter(q, 255),
-        Control::Fail => board.enter(p, 254),
+        Control::Stop(q) => board.enter(q, STOPPED),
+        Control::Fail => board.enter(p, FAILED),
         Control::Reset => board.rewind(p),
     }
 }
@@ -110,8 +116,8 @@ impl<'a, K: Kind> Running<'a, K> {
             Source::No => K::zero(),
             Source::Late(x) => truth_value(self.board.clock(turn.process) as usize > x),
             Source::Active(q) => truth_value(!is_passive(self.board.state(q))),
-            Source::Stopped(q) => truth_value(self.board.state(q) == 255),
-            Source::Failed(q) => truth_value(self.board.state(q) == 254),
+            Source::Stopped(q) => truth_value(self.board.state(q) == STOPPED),
+            Source::Failed(q) => truth_value(self.board.state(q) == FAILED),
         }
     }
 

@@ -5,12 +5,13 @@ ghost use Rattle.bodies.specs.Sweep.{visit as visited, sweep as swept};
 ghost use Rattle.bodies.specs.Memory.{meaning, ran, sweeps, Runnable};
 
 use crate::running::{Running, Turn};
-use flat::words::{PROCESSES, count_at, instructions_from, process_place};
+use flat::words::{PROCESSES, count_at, entry_place, instructions_from, process_place};
 use kinds::Kind;
 use refusals::{Fault, GivenUp, Place};
 
 impl<K: Kind> Running<'_, K> {
-    // Runs the body of the state that process `q` has, if that is among its states.
+    // Runs the body of the state that process `q` has, if that is among its states. The code stays a slice with a clause: a
+    // struct that says it can be run would be made in `advance` alone, for this function and the next.
     fn visit(&mut self, code: &[i32], seen: &[i32; 32], q: usize) -> Result<u32, Fault>
         requires layout { Runnable code.now }
         requires process { q < word code.now 5 }
@@ -20,11 +21,10 @@ impl<K: Kind> Running<'_, K> {
         ensures kept { IfOk result (λ n. length self.new.cells.now ≡ length self.old.cells.now) }
     {
         let s = self.board.state(q) as usize;
-        let place = process_place(q);
-        if s >= count_at(code, place) {
+        if s >= count_at(code, process_place(q)) {
             return Ok(0);
         }
-        let entry = count_at(code, place + 1 + s);
+        let entry = count_at(code, entry_place(q, s));
         self.depth = 0;
         let turn = Turn { seen, process: q };
         self.run(turn, instructions_from(code, entry), entry)

@@ -4,8 +4,6 @@
 ghost use Rattle.worked.specs.Examples.{WorkedExamples};
 
 // Each worked example comes out as it should.
-pub fn worked_examples() -> u8
+pub fn worked_examples()
     ensures { WorkedExamples }
-{
-    0
-}
+{}
