@@ -1,10 +1,9 @@
 // An input of bench, from bytes to the lines that are printed.
-ghost use Rattle.std.specs.Prelude.{◌≡◌, length, IfOk};
-ghost use Rattle.lines.specs.Lines.{refusal_line};
+ghost use Rattle.std.specs.Prelude.{length, IfOk};
 ghost use Rattle.benchrun.specs.Bench.{Benched, Answered, sheet_rows, code_room};
 
 use crate::split::tape_start;
-use lines::push_refusal_line;
+use lines::RefusalLine;
 use playback::replay::run_code;
 use std::alloc::{AllocError, Global};
 use text::row::Row;
@@ -19,15 +18,6 @@ const SHEET_ROWS: usize = 4096;
 // The most words that a code has: the head, 17 for each of 32 processes, and two for each of 4,096 instructions.
 const CODE_ROOM: usize = 8743;
 
-// The line of a refusal at a line of the text.
-fn refused(heap: Global, number: u32, at: u64) -> Result<Vec<u8>, AllocError>
-    ensures { IfOk result (λ out. out.items ≡ refusal_line number at) }
-{
-    let mut out = Vec::new(heap);
-    push_refusal_line(&mut out, number, at)?;
-    Ok(out)
-}
-
 // What is printed for a text and a tape, with this sheet and this room for the code.
 fn run_text<'a>(
     heap: Global,
@@ -39,8 +29,12 @@ fn run_text<'a>(
     ensures { IfOk result (λ out. Answered (length sheet.old) (length code.old) text.now tape.now out.items) }
 {
     match translate(text, sheet, code) {
-        Ok((n, _)) => run_code(heap, &code[0..n], tape),
-        Err(refusal) => refused(heap, refusal.number(), refusal.line() as u64),
+        Ok((n, _)) => run_code(heap, &code[..n], tape),
+        Err(refusal) => {
+            let number = refusal.number();
+            let at = refusal.line() as u64;
+            RefusalLine { number, at }.into_bytes(heap)
+        }
     }
 }
 
@@ -58,7 +52,7 @@ pub fn bench(heap: Global, input: &[u8]) -> Result<Vec<u8>, AllocError>
     ensures { IfOk result (λ out. Benched input.now out.items) }
 {
     if input.len() > LIMIT {
-        return refused(heap, 0, 0);
+        return RefusalLine::UNREADABLE.into_bytes(heap);
     }
     let (text, tape) = input.split_at(tape_start(input));
     answer(heap, text, tape)

@@ -12,7 +12,6 @@ use Rattle.lists.specs.declared.ListError.{ListError}
 use Rattle.lists.specs.declared.ListError.TheVariants.{NotAList, NoMemory}
 use Rattle.lists.specs.Read.{ListRead, NoList}
 use Rattle.lists.specs.Steps.{NoEnding, Passed, ValuesRead, behind, ending, inside, token}
-use Rattle.numerals.proofs.Appends.{kept_front}
 use Rattle.numerals.proofs.Numbers.{base_ten}
 
 -- The bytes that pass a test, up to one that does not, are the leading ones.
@@ -90,7 +89,7 @@ values_refused head input text before after NoMemory front none = tt
 
 -- The values that were there before are kept.
 pub passed_kept : (text left : List ℕ) (before after : List ℤ) → Passed text left before after → Kept before after
-passed_kept text left before after p = kept_front before p.vs after p.values
+passed_kept text left before after p = rw p.values (take_at before p.vs (length before) refl)
 
 -- A space and a value more.
 items_push : (vs : List ℤ) (v : ℤ) (rest : List ℕ) → items (vs ++ v ∷ []) ++ rest ≡ items vs ++ 32 ∷ (signed_decimal v ++ rest)

@@ -122,7 +122,7 @@ module _ (code code₁ : List ℤ) (text out : List ℕ) (h : Head) (rows rows�
   ran_milli is played = subst (Ran code text) (sym (played ∙ printed_run Millis.ops code code₁ text rows rows₁ same_code same_rows whole_rows)) (milli_run holds.layout (sym first_word ∙ is) rows whole_rows)
 
 -- A start on just the cells that a code has, and on a tape made for its inputs.
-module _ {V : Type 0} (k : Ops V) (m : Mounted) (h : Head) (s : State V Tape) (holds : Holds m.code.now m.head) (same : h ≡ m.head) (cells : s.cells ≡ replicate h.cells k.zero) (IfOk : Made s.host [] h.inputs) where
+module _ {V : Type 0} (k : Ops V) (m : Mounted) (h : Head) (s : State V Tape) (holds : Holds m.code.now m.head) (same : h ≡ m.head) (cells : s.cells ≡ replicate h.cells k.zero) (made : Made s.host [] h.inputs) where
   cells_are : s.cells ≡ replicate m.head.cells k.zero
   cells_are = cells ∙ ap (λ (x : Head). replicate x.cells k.zero) same
 
@@ -131,11 +131,11 @@ module _ {V : Type 0} (k : Ops V) (m : Mounted) (h : Head) (s : State V Tape) (h
 
   inputs : length s.host.latch.now ≡ m.head.inputs
   inputs =
-      ap length IfOk.latch ∙ length-replicate _ _ ∙ ap (λ (x : Head). tape_lines x.inputs) same
+      ap length made.latch ∙ length-replicate _ _ ∙ ap (λ (x : Head). tape_lines x.inputs) same
       ∙ inputs_lines _ m.head holds ∙ sym (ap (λ (x : Head). x.inputs) holds.head_is)
 
   outputs : m.head.outputs ≤ length s.host.held
-  outputs = rw (IfOk.held, holds.head_is) (few_outputs _ holds.layout)
+  outputs = rw (made.held, holds.head_is) (few_outputs _ holds.layout)
 
   enough : short m.head (world tape_means s) ≡ false
   enough = or_from _ _ (le-ltb (length s.cells) m.head.cells (omega (arith, size))) (or_from _ _ (le-ltb (length s.host.latch.now) m.head.inputs (omega (arith, inputs))) (le-ltb _ _ outputs))

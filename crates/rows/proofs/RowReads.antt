@@ -1,5 +1,5 @@
 -- Rows read one after another.
-use Rattle.std.proofs.Common.{◌≡◌, ℕ, ◌-◌, ◌<◌, ◌≤◌, true, false, eqb, List, [], ◌∷◌, ◌++◌, map, length, take, drop, ℤ, Ok, Err, codes, sym, refl, ap, ◌∙◌, subst, append_assoc, arith, length-append, w32, SFits}
+use Rattle.std.proofs.Common.{◌≡◌, ℕ, ◌-◌, ◌<◌, ◌≤◌, true, false, eqb, List, [], ◌∷◌, ◌++◌, map, length, take, drop, ℤ, Ok, Err, codes, sym, ap, ◌∙◌, subst, append_assoc, arith, length-append, w32, SFits}
 use Rattle.std.specs.List.{AllByRecursion}
 use Rattle.std.proofs.ByRecursion.{All-push}
 use Rattle.std.proofs.lemmas.List.{append-nil, flat_map_more, map_push, nil_from_length, take-append-drop, take_rest}
@@ -42,9 +42,6 @@ pub record PassedRows (width : ℕ) (text left : List ℕ) (rows : List (List �
   pub each : AllByRecursion (RowOf width) rows
   pub front : text ≡ shown_rows rows ++ left
   pub decides : NoRows width left → NoRows width text
-
-pub passed_none : (width : ℕ) (text : List ℕ) → PassedRows width text text []
-passed_none width text = record { each = tt; front = refl; decides = λ none. none }
 
 -- Where a row comes first, what follows it decides.
 row_decides : (width : ℕ) (left rest : List ℕ) (row : List ℤ) → RowOf width row → left ≡ shown_row_line row ++ rest → NoRows width rest → NoRows width left

@@ -1,8 +1,8 @@
 -- The code in front is run, or the refusal is told.
-use Rattle.std.proofs.Common.{◌≡◌, ◌-◌, ◌≤◌, length, take, vec_items, sym, ap, ◌∙◌, subst, arith, rules}
+use Rattle.std.proofs.Common.{◌≡◌, ◌≤◌, length, Some, vec_items, sym, subst, rules}
 use Rattle.std.proofs.lemmas.Result.{IfOk-weaker}
 use Rattle.language.specs.Translation.{translation}
-use Rattle.playback.proofs.Runs.{given}
+use Rattle.playback.proofs.Runs.{told_by}
 use Rattle.lines.specs.Lines.{refusal_line}
 use Rattle.playback.specs.Replay.{Ran}
 use Rattle.checks.specs.Refusals.{refusal_number, refusal_line as refusal-place}
@@ -19,9 +19,7 @@ pub returns-in-Ok : goal.returns-in-Ok
 returns-in-Ok c =
     let t = translation c.args.text.now (length c.args.sheet.now) (length c.args.code.now) in
     let w = wrote_words t c.args.code.now c.translate.new.code c.in-Ok.n c.in-Ok.field-0-1 c.in-Ok.ensures in
-    let all : c.in-Ok.n - 0 ≡ c.in-Ok.n = omega arith in
-    let whole = ap (λ n. take n c.translate.new.code) all in
-    IfOk-weaker _ _ _ (λ out r. ran w.words c.in-Ok.field-0-1 w.translation (vec_items out) (subst (λ ws. Ran ws c.args.tape.now (vec_items out)) (whole ∙ w.front) r)) c.run_code.ensures
+    IfOk-weaker _ _ _ (λ out r. ran w.words c.in-Ok.field-0-1 w.translation (vec_items out) (subst (λ ws. Ran ws c.args.tape.now (vec_items out)) w.front r)) c.run_code.ensures
 
 pub returns-in-Err : goal.returns-in-Err
 returns-in-Err c =
@@ -31,5 +29,5 @@ returns-in-Err c =
     let room = length c.args.code.now in
     let e = c.in-Err.refusal in
     let told = told_refusal (translation text rows room) c.args.code.now c.translate.new.code (refusal_number e) (refusal-place e) c.in-Err.ensures in
-    let same : refusal_line (refusal_number e) (refusal-place e) ≡ refusal_line c.number.result c.line.result = (λ i. refusal_line (sym c.number.ensures i) (sym c.line.ensures i)) in
-    given vec_items (Answered rows room text tape) _ _ c.refused.ensures (subst (Answered rows room text tape) same (no_code (refusal_number e) (refusal-place e) told))
+    let same : refusal_line (refusal_number e) (refusal-place e) ≡ refusal_line c.number-number.result c.line-at.result = (λ i. refusal_line (sym c.number-number.ensures i) (sym c.line-at.ensures i)) in
+    told_by vec_items (Answered rows room text tape) (Some (refusal_line c.number-number.result c.line-at.result)) _ (subst (Answered rows room text tape) same (no_code (refusal_number e) (refusal-place e) told)) c.into_bytes.ensures

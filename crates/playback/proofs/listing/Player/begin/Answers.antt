@@ -4,9 +4,15 @@ use lib.ListN.{length-replicate}
 use Rattle.std.proofs.lemmas.List.{take_at}
 use Rattle.flat.specs.declared.head.Head.{Head}
 use Rattle.machine.specs.Scan.{World}
-use Rattle.playback.proofs.Runs.{started_cells}
+use Rattle.playback.proofs.Runs.{start_taken, started_cells}
 use Rattle.playback.proofs.Turns.{holds_same}
 use Rattle.playback.proofs.listing.Player.begin.Goals as goal
+
+pub unreachable-requires : goal.unreachable-requires
+unreachable-requires g c =
+    start_taken g.K.Kind.ops c.args.mounted c.head-head.result (record { cells = c.deref_mut.result.now; board = c.new-board.result; scans = 0; host = c.new-tape.result }) c.requires.mounted c.head-head.ensures
+    (c.deref_mut.ensures.value ∙ c.in_ok-cells.ensures) (record { rest = c.new-tape.ensures.rest; latch = c.new-tape.ensures.latch; used = c.new-tape.ensures.used; held = c.new-tape.ensures.held })
+    (record { cells = c.start.new.cells; board = c.start.new.board; scans = 0; host = c.start.new.host }) c.in_default.field-0 c.requires.kind c.in_default.ensures
 
 pub returns : goal.returns
 returns g c =
