@@ -66,6 +66,7 @@ impl Board {
     }
 
     // The outputs put take their levels. By index: what is written through `iter_mut` under `zip` is not known afterwards.
+    #[tactic(auto, using(std::proofs::lemmas::List::take_all))]
     pub fn settle(&mut self, puts: &[Option<i32>; 32])
         ensures { self.new ≡ record { rows = self.old.rows; levels = settled puts.now self.old.levels } }
     {
@@ -77,6 +78,7 @@ impl Board {
     }
 
     // The clocks of the first `n` processes rise by one, and stop at their end.
+    #[tactic(auto, using(crate::proofs::Commits::ticked_more, crate::proofs::Commits::ticked_front))]
     pub fn tick(&mut self, n: usize)
         requires { n ≤ 32 }
         ensures { self.new ≡ record { rows = ticked n self.old.rows; levels = self.old.levels } }

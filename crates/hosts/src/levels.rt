@@ -13,6 +13,7 @@ pub fn sense<H: Host>(host: &H) -> [i32; 32]
 }
 
 // Puts each line that has a value to it, in number order. The other lines keep what they hold.
+#[tactic(auto, using(std::proofs::lemmas::List::take_all))]
 pub fn put_all<H: Host>(host: &mut H, puts: &[Option<i32>; 32])
     ensures held { H.means.held host.new ≡ settled puts.now (H.means.held host.old) }
     ensures latch { H.means.latch host.new ≡ H.means.latch host.old }
@@ -25,6 +26,7 @@ pub fn put_all<H: Host>(host: &mut H, puts: &[Option<i32>; 32])
 }
 
 // Puts the first `n` output lines to 0, or all where there are fewer.
+#[tactic(auto, using(crate::proofs::Puts::cleared_more))]
 pub fn clear_lines<H: Host>(host: &mut H, n: usize)
     ensures held { H.means.held host.new ≡ cleared n (H.means.held host.old) }
     ensures latch { H.means.latch host.new ≡ H.means.latch host.old }

@@ -27,6 +27,7 @@ pub fn mount(code: &[i32]) -> Result<Mounted<'_>, MountRefusal>
 }
 
 // Sets the first `n` cells to zero. Not by `fill`, which asks that a clone cannot fail: no kind says so of its values.
+#[tactic(auto, using(crate::proofs::Clears::cleared_more))]
 fn clear_cells<K: Kind>(cells: &mut [K], n: usize)
     requires { n ≤ length cells.old }
     ensures { cells.new ≡ replicate n K.ops.zero ++ drop n cells.old }

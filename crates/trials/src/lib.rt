@@ -6,4 +6,6 @@ mod codes;
 #[cfg(test)]
 mod refused;
 #[cfg(test)]
+mod runs;
+#[cfg(test)]
 mod scans;

@@ -1,6 +1,5 @@
--- A line with a value is put to it, and after 32 lines all values are taken.
+-- A line with a value is put to it.
 use Rattle.std.proofs.Common.{Some, None, arith, rules}
-use Rattle.std.proofs.lemmas.List.{take_all}
 use Rattle.hosts.proofs.Puts.{settled_more}
 use Rattle.hosts.proofs.levels.put_all.Goals as goal
 use Rattle.hosts.proofs.levels.put_all.Goals.{in-Some, in_default}
@@ -12,6 +11,3 @@ loop-i-preserved g c =
       | in-Some w ↦ let e = more (Some w.in-Some.v) (omega arith) w.in-Some.is in search rules
       | in_default w ↦ let e = more None (omega arith) (search rules) in search rules
     ]
-
-pub returns : goal.returns
-returns g c = let e = take_all c.loop-i.i c.args.puts.now (omega arith) in search rules
