@@ -1,5 +1,5 @@
 // A scan on the cells and the board, with the levels sampled.
-ghost use Rattle.std.specs.Prelude.{◌≡◌, ℕ, ◌+◌, ◌≤◌, List, ◌++◌, length, take, drop};
+ghost use Rattle.std.specs.Prelude.{◌≡◌, ◌+◌, ◌≤◌, length};
 ghost use Rattle.flat.specs.Words.{word};
 ghost use Rattle.bodies.specs.Advance.{advance as advanced, advances};
 ghost use Rattle.bodies.specs.Memory.{Runnable};

@@ -1,5 +1,5 @@
 // A body of flat code, from its entry to its end.
-ghost use Rattle.std.specs.Prelude.{◌≡◌, ℕ, ◌+◌, ◌*◌, ◌<◌, ◌≤◌, length, IfOk};
+ghost use Rattle.std.specs.Prelude.{◌≡◌, ◌+◌, ◌*◌, ◌≤◌, length, IfOk};
 ghost use Rattle.bodies.specs.Body.{run as runs};
 ghost use Rattle.bodies.specs.Memory.{meaning, ran, Sound};
 

@@ -1,5 +1,5 @@
 // One instruction of the flat machine.
-ghost use Rattle.std.specs.Prelude.{◌≡◌, ℕ, ◌+◌, ◌<◌, ◌≤◌, List, [], ◌∷◌, length, replicate};
+ghost use Rattle.std.specs.Prelude.{◌≡◌, ◌<◌, ◌≤◌, [], length, replicate};
 ghost use Rattle.bodies.specs.Machine.{push as pushed, value as given, converted, combined, controlled, step as stepped, passive};
 ghost use Rattle.bodies.specs.Memory.{meaning, outcome, restored, for_stack, InRange, SourceInRange, ControlInRange};
 

@@ -1,6 +1,6 @@
 // All processes of a code, in order.
-ghost use Rattle.std.specs.Prelude.{◌≡◌, ℕ, ◌+◌, ◌<◌, ◌≤◌, length, IfOk};
-ghost use Rattle.flat.specs.Words.{word, body};
+ghost use Rattle.std.specs.Prelude.{◌≡◌, ◌<◌, ◌≤◌, length, IfOk};
+ghost use Rattle.flat.specs.Words.{word};
 ghost use Rattle.bodies.specs.Sweep.{visit as visited, sweep as swept};
 ghost use Rattle.bodies.specs.Memory.{meaning, ran, sweeps, Runnable};
 

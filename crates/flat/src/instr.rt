@@ -1,7 +1,6 @@
 // The instructions of flat code.
-ghost use Rattle.std.specs.Prelude.{◌≡◌, ℕ, ◌<◌, ◌≤◌, slice_index_or};
-ghost use Rattle.flat.specs.Instructions.{table, decoded};
-ghost use Rattle.flat.specs.declared.instr.Instr.TheVariants.{End};
+ghost use Rattle.std.specs.Prelude.{◌≡◌};
+ghost use Rattle.flat.specs.Instructions.{decoded};
 
 use crate::words::as_count;
 

@@ -1,5 +1,5 @@
 // Whether a code is of the layout.
-ghost use Rattle.std.specs.Prelude.{◌≡◌, ℕ, ◌<◌, ◌≤◌, Bool, true};
+ghost use Rattle.std.specs.Prelude.{◌≡◌, ◌<◌, ◌≤◌, true};
 ghost use Rattle.flat.specs.Words.{word, head, body};
 ghost use Rattle.flat.specs.Tests.{within, timing_fits, memory_fits, program_fits, head_fits, entry_fits, process_fits, every, instructions_fit, rest_fits, fits};
 ghost use Rattle.flat.specs.Layout.{Reads};
@@ -42,6 +42,7 @@ fn is_within(low: usize, high: usize, x: i32) -> bool
 }
 
 // Whether the kind is known and the tact within its limits.
+#[tactic(auto, using(crate::proofs::KnownKinds::known))]
 fn timing_fits(code: &[i32]) -> bool
     ensures { result ≡ timing_fits code.now }
 {

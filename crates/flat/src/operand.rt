@@ -1,5 +1,5 @@
 // Whether an instruction is known and its operand fits.
-ghost use Rattle.std.specs.Prelude.{◌≡◌, ℕ, ◌≤◌, length};
+ghost use Rattle.std.specs.Prelude.{◌≡◌};
 ghost use Rattle.flat.specs.Tests.{under, ahead, operand_fits, instruction_fits, instructions_fit};
 
 use crate::head::Head;
