@@ -49,13 +49,10 @@ fn other_kind(rt: HostRuntime) -> Result<(), Fail> {
     };
     let mut board = Board::new();
     let mut jig = Jig::new([0; 32]);
-    match mounted.start::<Milli, Jig>(&mut [], &mut board, &mut jig) {
-        Ok(live) => {
-            let _ = live.halt();
-            return Err(Fail::new("started"));
-        }
-        Err(refusal) => assert_eq!(rt; refusal.number(), 10),
-    }
+    let Err(refusal) = mounted.start::<Milli, Jig>(&mut [], &mut board, &mut jig) else {
+        return Err(Fail::new("started"));
+    };
+    assert_eq!(rt; refusal.number(), 10);
     let mut live = begin(&GUARD, &mut [Long(1)], &mut board, &mut jig)?;
     assert_eq!(rt;
         number(live.scan::<Milli, Jig>(&mut [], &mut [], &mut board, &mut jig)),
