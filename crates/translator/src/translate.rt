@@ -3,24 +3,13 @@ ghost use Rattle.std.specs.Prelude.{◌≡◌, ◌≤◌, length};
 ghost use Rattle.text.specs.Sheet.{forms_at};
 ghost use Rattle.language.specs.OnSheet.{lines_at};
 ghost use Rattle.language.specs.Translation.{answer_for, translation};
-ghost use Rattle.translator.specs.Outcome.{unread, told, outcome};
+ghost use Rattle.translator.specs.Outcome.{told, outcome};
 
 use crate::emit::{count_words, write_code};
 use checks::check::check;
 use checks::refusal::Refusal;
-use text::read::{ReadRefusal, read};
+use text::read::read;
 use text::row::Row;
-
-// The refusal of a text that could not be read.
-fn unread(refusal: ReadRefusal) -> Refusal
-    ensures { result ≡ unread refusal }
-{
-    match refusal {
-        ReadRefusal::Size => Refusal::Size,
-        ReadRefusal::Line(n) => Refusal::NoForm(n),
-        ReadRefusal::Short => Refusal::ShortSheet,
-    }
-}
 
 // Checks the lines on a sheet and writes their code.
 fn write_checked(rows: &[Row], lines: usize, code: &mut [i32]) -> Result<(usize, usize), Refusal>
@@ -43,8 +32,6 @@ pub fn translate<'a>(
 ) -> Result<(usize, usize), Refusal>
     ensures { (record { told = told result; code = code.new }) ≡ outcome (translation text.now (length sheet.old) (length code.old)) code.old }
 {
-    match read(text, sheet) {
-        Ok(page) => write_checked(sheet, page.lines, code),
-        Err(refusal) => Err(unread(refusal)),
-    }
+    let page = read(text, sheet)?;
+    write_checked(sheet, page.lines, code)
 }
