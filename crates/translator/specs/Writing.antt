@@ -16,14 +16,13 @@ use Rattle.text.specs.declared.row.Row.{Row}
 use Rattle.language.specs.Lines.{declared, body}
 use Rattle.language.specs.OnSheet.{lines_at}
 use Rattle.language.specs.Resolve.{Names, Spot, thing, target, process, expr, stmt, bodies, all_names}
+use Rattle.language.specs.Pushes.{thing_source, target_instr}
 use Rattle.language.specs.Compile.{longest, longest_of}
 use Rattle.language.specs.Program.{longest_body}
 use Rattle.language.specs.Sizes.{term_size, act_size}
 use Rattle.language.specs.Words.{encoded}
-use Rattle.language.specs.declared.names.Thing.{Thing}
-use Rattle.language.specs.declared.names.Thing.TheVariants.{Constant, Cell as CellThing, In as InThing, Out as OutThing}
-use Rattle.language.specs.declared.names.Target.{Target}
-use Rattle.language.specs.declared.names.Target.TheVariants.{Cell as CellTarget, Out as OutTarget}
+use Rattle.language.specs.declared.names.Thing.TheVariants.{Constant}
+use Rattle.language.specs.declared.names.Target.TheVariants.{Cell as CellTarget}
 use Rattle.language.specs.declared.house.Enquiry.{Enquiry}
 use Rattle.language.specs.declared.house.Enquiry.TheVariants as enquiry
 use Rattle.language.specs.declared.house.Opener.TheVariants.{State as StateLine}
@@ -63,17 +62,6 @@ operand (Set c) = control_operand c
 -- An instruction put at a place.
 unfoldable pub put_at : ℕ → Instr → List ℤ → List ℤ
 put_at p i ws = slice_set (slice_set ws (2 * p) (encoded i).0) (2 * p + 1) (encoded i).1
-
--- What a name pushes, and what puts a value under it.
-abbrev pub thing_source : Thing → Source
-thing_source (Constant v) = Lit v
-thing_source (CellThing i) = Cell i
-thing_source (InThing i) = In i
-thing_source (OutThing i) = Out i
-
-abbrev pub target_instr : Target → Instr
-target_instr (CellTarget i) = Keep i
-target_instr (OutTarget i) = Drive i
 
 -- A question about process q put from place p on.
 abbrev pub enquiry_put : ℕ → Enquiry → ℕ → List ℤ → List ℤ

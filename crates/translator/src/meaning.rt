@@ -8,11 +8,11 @@ ghost use Rattle.language.specs.Resolve.{thing, target, process};
 ghost use Rattle.language.specs.declared.names.Thing.TheVariants.{Constant};
 ghost use Rattle.language.specs.declared.names.Target.TheVariants.{Cell as CellTarget};
 ghost use Rattle.language.specs.declared.house.Opener.TheVariants.{State};
-ghost use Rattle.translator.specs.Writing.{names_at, thing_source, source_operand, target_instr, operand};
+ghost use Rattle.language.specs.Pushes.{thing_source, target_instr};
+ghost use Rattle.translator.specs.Writing.{names_at, source_operand, operand};
 
 use flat::instr::{Instr, Source};
 use language::house::Opener;
-use language::names::{Target, Thing};
 use language::view::{digits_at, word_at};
 use lookup::{find_name, target_named, thing_named};
 use measure::value::value;
@@ -22,10 +22,7 @@ use text::row::Row;
 pub(crate) fn number_at(rows: &[Row], at: usize) -> i32
     ensures { result ≡ word_value (digits_at rows.now at) }
 {
-    match value(digits_at(rows, at)) {
-        Some(v) => v,
-        None => 0,
-    }
+    value(digits_at(rows, at)).unwrap_or(0)
 }
 
 // The number at a row as a count, a negative one as 0.
@@ -33,20 +30,7 @@ pub(crate) fn count_at(rows: &[Row], at: usize) -> usize
     ensures is { result ≡ natural (word_value (digits_at rows.now at)) }
     ensures below { result < 2 ^ 31 }
 {
-    let v = number_at(rows, at);
-    if v < 0 { 0 } else { v as usize }
-}
-
-// What pushes the thing that a name stands for.
-fn thing_source(thing: Thing) -> Source
-    ensures { result ≡ thing_source thing }
-{
-    match thing {
-        Thing::Constant(v) => Source::Lit(v),
-        Thing::Cell(n) => Source::Cell(n),
-        Thing::In(n) => Source::In(n),
-        Thing::Out(n) => Source::Out(n),
-    }
+    usize::try_from(number_at(rows, at)).unwrap_or(0)
 }
 
 // What the name at a row pushes.
@@ -54,20 +38,7 @@ pub(crate) fn source_at(rows: &[Row], lines: usize, at: usize) -> Source
     ensures is { result ≡ thing_source (otherwise (Constant (pos 0)) (thing (names_at rows.now lines) (word_at rows.now at))) }
     ensures below { source_operand result ≤ lines }
 {
-    match thing_named(rows, lines, word_at(rows, at)) {
-        Some(thing) => thing_source(thing),
-        None => Source::Lit(0),
-    }
-}
-
-// What puts a value into the target that a name stands for.
-fn target_instr(target: Target) -> Instr
-    ensures { result ≡ target_instr target }
-{
-    match target {
-        Target::Cell(n) => Instr::Keep(n),
-        Target::Out(n) => Instr::Drive(n),
-    }
+    thing_named(rows, lines, word_at(rows, at)).map_or(Source::Lit(0), Source::from)
 }
 
 // The instruction that puts a value under the name at a row.
@@ -75,10 +46,7 @@ pub(crate) fn target_at(rows: &[Row], lines: usize, at: usize) -> Instr
     ensures is { result ≡ target_instr (otherwise (CellTarget 0) (target (names_at rows.now lines) (word_at rows.now at))) }
     ensures below { operand result ≤ lines }
 {
-    match target_named(rows, lines, word_at(rows, at)) {
-        Some(target) => target_instr(target),
-        None => Instr::Keep(0),
-    }
+    target_named(rows, lines, word_at(rows, at)).map_or(Instr::Keep(0), Instr::from)
 }
 
 // The number of the process whose name stands at a row.
@@ -86,10 +54,7 @@ pub(crate) fn process_at(rows: &[Row], lines: usize, at: usize) -> usize
     ensures is { result ≡ process (names_at rows.now lines) (word_at rows.now at) }
     ensures below { result ≤ lines }
 {
-    match find_name(rows, 0, lines, Opener::Proc, word_at(rows, at)) {
-        Some(n) => n,
-        None => 0,
-    }
+    find_name(rows, 0, lines, Opener::Proc, word_at(rows, at)).unwrap_or(0)
 }
 
 // The number, among the states of lines from a row on, of the one whose name stands at a row.
@@ -97,8 +62,5 @@ pub(crate) fn state_at(rows: &[Row], first: usize, states: usize, at: usize) -> 
     ensures is { result ≡ otherwise 0 (found (word_at rows.now at) (declared State (lines_at rows.now first states))) }
     ensures below { result ≤ states }
 {
-    match find_name(rows, first, states, Opener::State, word_at(rows, at)) {
-        Some(n) => n,
-        None => 0,
-    }
+    find_name(rows, first, states, Opener::State, word_at(rows, at)).unwrap_or(0)
 }
