@@ -40,7 +40,7 @@ fn emit_enquiry(
 }
 
 // Puts the `and` of the expressions at two rows: where the first does not hold, the second is not evaluated.
-#[cycle(emit_and_emit_or_emit_term_emit_view)]
+#[cycle(expressions)]
 fn emit_and(
     rows: &[Row],
     lines: usize,
@@ -66,7 +66,7 @@ fn emit_and(
 }
 
 // Puts the `or` of the expressions at two rows: where the first holds, the second is not evaluated.
-#[cycle(emit_and_emit_or_emit_term_emit_view)]
+#[cycle(expressions)]
 fn emit_or(
     rows: &[Row],
     lines: usize,
@@ -96,7 +96,7 @@ fn emit_or(
 }
 
 // Puts the expression at a row whose view is given, its parts at most `left` deep.
-#[cycle(emit_and_emit_or_emit_term_emit_view)]
+#[cycle(expressions)]
 fn emit_view(
     rows: &[Row],
     lines: usize,
@@ -134,7 +134,7 @@ fn emit_view(
 }
 
 // Puts the expression at a row, read at most `left` deep, from place p on; answers the place behind it, and how many of its instructions run at most.
-#[cycle(emit_and_emit_or_emit_term_emit_view)]
+#[cycle(expressions)]
 pub(crate) fn emit_term(
     rows: &[Row],
     lines: usize,

@@ -1,10 +1,10 @@
 // The instructions of statements.
 ghost use Rattle.std.specs.Prelude.{◌≡◌, ◌+◌, ◌*◌, ◌≤◌, length};
 ghost use Rattle.language.specs.Lines.{body};
-ghost use Rattle.language.specs.Named.{Act};
-ghost use Rattle.language.specs.OnSheet.{term_at, act_at, act_of, acts_of, change_of, digits_at, line_at};
+ghost use Rattle.language.specs.OnSheet.{term_at, act_at, act_of, acts_of, change_of, line_at};
 ghost use Rattle.language.specs.Sizes.{act_size};
-ghost use Rattle.translator.specs.Writing.{names_at, spot_at, Near, ActEmitted};
+ghost use Rattle.flat.specs.declared.instr.Instr.TheVariants.{Unless as UnlessInstr};
+ghost use Rattle.translator.specs.Writing.{names_at, put_at, spot_at, Near, ActEmitted};
 
 use crate::encode::put;
 use crate::expression::emit_term;
@@ -51,60 +51,31 @@ fn emit_change(
     (put(code, p, Instr::Set(control)), 1)
 }
 
-// Puts a statement with no other to do where its condition does not hold.
-#[cycle(emit_act_emit_acts_emit_after_emit_parts_emit_when)]
-fn emit_when(
+// Puts an `unless` at a place that leads past the statement at a row, and then the statement: it runs only where the top of the stack is true.
+#[cycle(statements)]
+fn emit_guarded(
     rows: &[Row],
     site: Site,
-    condition: usize,
     at: usize,
     left: usize,
     code: &mut [i32],
-    p: usize,
+    unless: usize,
 ) -> (usize, usize)
     requires near { Near site }
     requires short { length code.old ≤ 8192 }
-    requires room { 2 * (p + act_size (Act.when (term_at left rows.now condition) (act_at left rows.now at))) ≤ length code.old }
-    ensures { ActEmitted (names_at rows.now site.lines) (spot_at rows.now site) (Act.when (term_at left rows.now condition) (act_at left rows.now at)) p code.old code.new result }
+    requires room { 2 * (unless + 1 + act_size (act_at left rows.now at)) ≤ length code.old }
+    ensures { ActEmitted (names_at rows.now site.lines) (spot_at rows.now site) (act_at left rows.now at) (unless + 1) (put_at unless (UnlessInstr (unless + 1 + act_size (act_at left rows.now at))) code.old) code.new result }
 {
-    let (unless, m) = emit_term(rows, site.lines, condition, left, code, p);
     let first = put(
         code,
         unless,
         Instr::Unless(unless + 1 + act_size(rows, at, left)),
     );
-    let (next, n) = emit_act(rows, site, at, left, code, first);
-    (next, m + 1 + n)
-}
-
-// Puts a statement under a time.
-#[cycle(emit_act_emit_acts_emit_after_emit_parts_emit_when)]
-fn emit_after(
-    rows: &[Row],
-    site: Site,
-    time: usize,
-    at: usize,
-    left: usize,
-    code: &mut [i32],
-    p: usize,
-) -> (usize, usize)
-    requires near { Near site }
-    requires short { length code.old ≤ 8192 }
-    requires room { 2 * (p + act_size (Act.after (digits_at rows.now time) (act_at left rows.now at))) ≤ length code.old }
-    ensures { ActEmitted (names_at rows.now site.lines) (spot_at rows.now site) (Act.after (digits_at rows.now time) (act_at left rows.now at)) p code.old code.new result }
-{
-    let unless = put(code, p, Instr::Push(Source::Late(count_at(rows, time))));
-    let first = put(
-        code,
-        unless,
-        Instr::Unless(p + 2 + act_size(rows, at, left)),
-    );
-    let (next, n) = emit_act(rows, site, at, left, code, first);
-    (next, 2 + n)
+    emit_act(rows, site, at, left, code, first)
 }
 
 // Puts so many statements from a row on, one behind another.
-#[cycle(emit_act_emit_acts_emit_after_emit_parts_emit_when)]
+#[cycle(statements)]
 fn emit_acts(
     rows: &[Row],
     site: Site,
@@ -132,7 +103,7 @@ fn emit_acts(
 }
 
 // Puts the statement whose view is given, its parts at most `left` deep.
-#[cycle(emit_act_emit_acts_emit_after_emit_parts_emit_when)]
+#[cycle(statements)]
 fn emit_parts(
     rows: &[Row],
     site: Site,
@@ -151,7 +122,11 @@ fn emit_parts(
             let (last, m) = emit_term(rows, site.lines, value, left, code, p);
             (put(code, last, target_at(rows, site.lines, name)), m + 1)
         }
-        ActView::When(condition, at) => emit_when(rows, site, condition, at, left, code, p),
+        ActView::When(condition, at) => {
+            let (unless, m) = emit_term(rows, site.lines, condition, left, code, p);
+            let (next, n) = emit_guarded(rows, site, at, left, code, unless);
+            (next, m + 1 + n)
+        }
         ActView::Choose(condition, at, other) => {
             let (unless, m) = emit_term(rows, site.lines, condition, left, code, p);
             let second = unless + 1 + act_size(rows, at, left) + 1;
@@ -166,14 +141,18 @@ fn emit_parts(
             (next, m + 1 + (n + 1).max(k))
         }
         ActView::Do(from, count) => emit_acts(rows, site, from, count, left, code, p),
-        ActView::After(time, at) => emit_after(rows, site, time, at, left, code, p),
+        ActView::After(time, at) => {
+            let unless = put(code, p, Instr::Push(Source::Late(count_at(rows, time))));
+            let (next, n) = emit_guarded(rows, site, at, left, code, unless);
+            (next, 2 + n)
+        }
         ActView::Set(change) => emit_change(rows, site, change, code, p),
         ActView::Odd => (p, 0),
     }
 }
 
 // Puts the statement at a row, read at most `left` deep, from place p on; answers the place behind it, and how many of its instructions run at most.
-#[cycle(emit_act_emit_acts_emit_after_emit_parts_emit_when)]
+#[cycle(statements)]
 fn emit_act(
     rows: &[Row],
     site: Site,

@@ -1,5 +1,5 @@
 use Rattle.std.proofs.Common.{◌+◌, ◌*◌}
-use Rattle.translator.proofs.expression.+emit_and_emit_or_emit_term_emit_view.Given as goal
+use Rattle.translator.proofs.expression.+expressions.Given as goal
 
 abbrev pub decreases-emit_and : goal.decreases-emit_and
 decreases-emit_and l = 3 * l.left + 1

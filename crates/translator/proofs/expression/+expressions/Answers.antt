@@ -1,7 +1,7 @@
 use Rattle.std.proofs.Common.{ap, rules}
 use Rattle.language.specs.Sizes.{term_size}
 use Rattle.translator.proofs.Steps.{term_step}
-use Rattle.translator.proofs.expression.+emit_and_emit_or_emit_term_emit_view.Goals as goal
+use Rattle.translator.proofs.expression.+expressions.Goals as goal
 
 pub emit_term-emit_view-requires : goal.emit_term-emit_view-requires
 emit_term-emit_view-requires t c =

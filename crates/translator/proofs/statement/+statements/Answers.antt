@@ -5,7 +5,7 @@ use Rattle.language.specs.OnSheet.{act_at}
 use Rattle.translator.proofs.Steps.{act_step}
 use Rattle.language.proofs.Depth.{acts_more, acts_none}
 use Rattle.translator.proofs.Going.{going_from, going_more, going_all}
-use Rattle.translator.proofs.statement.+emit_act_emit_acts_emit_after_emit_parts_emit_when.Goals as goal
+use Rattle.translator.proofs.statement.+statements.Goals as goal
 
 pub emit_act-emit_parts-requires : goal.emit_act-emit_parts-requires
 emit_act-emit_parts-requires t c =

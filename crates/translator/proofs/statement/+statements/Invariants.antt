@@ -2,7 +2,7 @@ use Rattle.std.proofs.Common.{◌+◌, ◌-◌, ◌*◌}
 use Rattle.language.specs.OnSheet.{act_at, acts_of}
 use Rattle.translator.specs.Writing.{names_at, spot_at}
 use Rattle.translator.proofs.Going.{Going}
-use Rattle.translator.proofs.statement.+emit_act_emit_acts_emit_after_emit_parts_emit_when.Given as goal
+use Rattle.translator.proofs.statement.+statements.Given as goal
 
 abbrev pub decreases-emit_act : goal.decreases-emit_act
 decreases-emit_act l = 3 * l.left
@@ -10,14 +10,11 @@ decreases-emit_act l = 3 * l.left
 abbrev pub decreases-emit_acts : goal.decreases-emit_acts
 decreases-emit_acts l = 3 * l.left + 1
 
-abbrev pub decreases-emit_after : goal.decreases-emit_after
-decreases-emit_after l = 3 * l.left + 1
-
 abbrev pub decreases-emit_parts : goal.decreases-emit_parts
 decreases-emit_parts l = 3 * l.left + 2
 
-abbrev pub decreases-emit_when : goal.decreases-emit_when
-decreases-emit_when l = 3 * l.left + 1
+abbrev pub decreases-emit_guarded : goal.decreases-emit_guarded
+decreases-emit_guarded l = 3 * l.left + 1
 
 abbrev pub invariant-emit_acts-loop-i : goal.invariant-emit_acts-loop-i
 invariant-emit_acts-loop-i l =
