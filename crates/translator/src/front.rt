@@ -119,16 +119,6 @@ fn head_words(rows: &[Row], lines: usize, processes: usize, instructions: usize)
     ]
 }
 
-// Writes words over those of a code, from a word on.
-fn write_words(words: &[i32], code: &mut [i32], from: usize)
-    requires { from + length words.now ≤ length code.old }
-    ensures { code.new ≡ over from words.now code.old }
-{
-    for (i, word) in words.iter().enumerate() {
-        code[from + i] = *word;
-    }
-}
-
 // Writes the head of a code for so many processes and instructions.
 fn write_head(rows: &[Row], lines: usize, processes: usize, instructions: usize, code: &mut [i32])
     requires few { lines ≤ 32768 }
@@ -138,7 +128,7 @@ fn write_head(rows: &[Row], lines: usize, processes: usize, instructions: usize,
     ensures { code.new ≡ over 0 (head_words (lines_at rows.now 0 lines) processes instructions) code.old }
 {
     let words = head_words(rows, lines, processes, instructions);
-    write_words(&words, code, 0);
+    code[..HEAD].copy_from_slice(&words);
 }
 
 // The word of entry i of so many, for a body at a place; an unused one is 0.
