@@ -26,7 +26,8 @@ use Rattle.language.specs.declared.names.Target.TheVariants.{Cell as CellTarget}
 use Rattle.language.specs.declared.house.Enquiry.{Enquiry}
 use Rattle.language.specs.declared.house.Enquiry.TheVariants as enquiry
 use Rattle.language.specs.declared.house.Opener.TheVariants.{State as StateLine}
-use Rattle.translator.specs.declared.statement.Site.{Site}
+use Rattle.translator.specs.declared.sheet.Sheet.{Sheet}
+use Rattle.translator.specs.declared.site.Site.{Site}
 
 -- The number that an instruction's operand is, 0 where it has none or a signed one.
 abbrev pub source_operand : Source → ℕ
@@ -131,20 +132,16 @@ abbrev pub processes_put : Names → ℕ → ℕ → List (List Line) → List �
 processes_put n q p [] ws = ws
 processes_put n q p (g ∷ gs) ws = processes_put n (suc q) (p + states_size g) gs (states_put n q (declared StateLine g) 0 p g ws)
 
--- What the lines of a sheet declare.
-abbrev pub names_at : List Row → ℕ → Names
-names_at rows lines = all_names (lines_at rows 0 lines)
+-- The lines of a text on its sheet, and what they declare.
+abbrev pub lines_of : Sheet → List Line
+lines_of sheet = lines_at sheet.rows.now 0 sheet.lines
+
+abbrev pub names_at : Sheet → Names
+names_at sheet = all_names (lines_of sheet)
 
 -- Where a statement on a sheet stands.
-abbrev pub spot_at : List Row → Site → Spot
-spot_at rows site = record { own = site.own; states = declared StateLine (lines_at rows site.first site.states); here = site.here }
-
--- The numbers there are those of a text's lines.
-pub record Near (site : Site) : Type 0 where
-  pub few_lines : site.lines ≤ 32768
-  pub few_processes : site.own ≤ 32768
-  pub few_states : site.states ≤ 32768
-  pub few_before : site.here ≤ 32768
+abbrev pub spot_at : Site → Spot
+spot_at site = record { own = site.own; states = declared StateLine (lines_at site.sheet.rows.now site.first site.states); here = site.here }
 
 -- An expression was put from place p on; r has the place behind it and the longest way through it.
 pub record TermEmitted (n : Names) (t : Term) (p : ℕ) (old new : List ℤ) (r : ℕ × ℕ) : Type 0 where

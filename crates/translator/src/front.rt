@@ -5,11 +5,12 @@ ghost use Rattle.language.specs.Grammar.{kind_named};
 ghost use Rattle.language.specs.Lines.{is, rank, declared, processes as processes_of};
 ghost use Rattle.language.specs.OnSheet.{lines_at, house_at};
 ghost use Rattle.language.specs.Words.{padded, process_words, kind_number, period};
-ghost use Rattle.translator.specs.Writing.{states_size, processes_size};
+ghost use Rattle.translator.specs.Writing.{lines_of, states_size, processes_size};
 ghost use Rattle.translator.specs.Front.{over, line_entries, process_entries, kind_at, head_words, front_words};
 
 use crate::meaning::number_at;
 use crate::process::{count_states, line_size, size_states};
+use crate::sheet::Sheet;
 use language::house::{House, Opener};
 use language::line::is_line;
 use language::view::{house_at, opener_at, second_row};
@@ -21,17 +22,17 @@ pub(crate) const HEAD: usize = 7;
 pub(crate) const ENTRIES: usize = 16;
 
 // How many lines are of a sort.
-fn count_lines(rows: &[Row], lines: usize, opener: Opener) -> usize
-    ensures is { result ≡ count (is opener) (lines_at rows.now 0 lines) }
-    ensures within { result ≤ lines }
+fn count_lines(sheet: Sheet, opener: Opener) -> usize
+    ensures is { result ≡ count (is opener) (lines_of sheet.entry) }
+    ensures within { result ≤ sheet.entry.lines }
 {
     let mut at = 0;
     let mut found = 0;
-    for _i in 0..lines {
-        if is_line(rows, at, opener) {
+    for _i in 0..sheet.lines {
+        if is_line(sheet.rows, at, opener) {
             found += 1;
         }
-        at = next_row(rows, at);
+        at = next_row(sheet.rows, at);
     }
     found
 }
@@ -60,54 +61,52 @@ fn kind_at(rows: &[Row], at: usize) -> i32
 }
 
 // The number of the kind that lines name.
-fn kind_number(rows: &[Row], lines: usize) -> i32
-    ensures { result ≡ kind_number (lines_at rows.now 0 lines) }
+fn kind_number(sheet: Sheet) -> i32
+    ensures { result ≡ kind_number (lines_of sheet.entry) }
 {
     let mut at = 0;
-    for _i in 0..lines {
-        if is_line(rows, at, Opener::Kind) {
-            return kind_at(rows, at);
+    for _i in 0..sheet.lines {
+        if is_line(sheet.rows, at, Opener::Kind) {
+            return kind_at(sheet.rows, at);
         }
-        at = next_row(rows, at);
+        at = next_row(sheet.rows, at);
     }
     0
 }
 
 // The period that lines give.
-fn period(rows: &[Row], lines: usize) -> i32
-    ensures { result ≡ period (lines_at rows.now 0 lines) }
+fn period(sheet: Sheet) -> i32
+    ensures { result ≡ period (lines_of sheet.entry) }
 {
     let mut at = 0;
-    for _i in 0..lines {
-        if is_line(rows, at, Opener::Tact) {
-            return number_at(rows, second_row(rows, at));
+    for _i in 0..sheet.lines {
+        if is_line(sheet.rows, at, Opener::Tact) {
+            return number_at(sheet.rows, second_row(sheet.rows, at));
         }
-        at = next_row(rows, at);
+        at = next_row(sheet.rows, at);
     }
     0
 }
 
 // How many names lines of a sort declare, as a word.
-fn names_word(rows: &[Row], lines: usize, opener: Opener) -> i32
-    requires few { lines ≤ 32768 }
+fn names_word(sheet: Sheet, opener: Opener) -> i32
     requires named { 3 ≤ rank opener }
-    ensures { result ≡ pos (length (declared opener (lines_at rows.now 0 lines))) }
+    ensures { result ≡ pos (length (declared opener (lines_of sheet.entry))) }
 {
-    count_lines(rows, lines, opener) as i32
+    count_lines(sheet, opener) as i32
 }
 
 // The seven words of the head, for so many processes and instructions.
-fn head_words(rows: &[Row], lines: usize, processes: usize, instructions: usize) -> [i32; 7]
-    requires few { lines ≤ 32768 }
+fn head_words(sheet: Sheet, processes: usize, instructions: usize) -> [i32; 7]
     requires counted { processes ≤ 32768 }
     requires small { instructions ≤ 4096 }
-    ensures { result ≡ head_words (lines_at rows.now 0 lines) processes instructions }
+    ensures { result ≡ head_words (lines_of sheet.entry) processes instructions }
 {
-    let kind = kind_number(rows, lines);
-    let tact = period(rows, lines);
-    let cells = names_word(rows, lines, Opener::Cell);
-    let inputs = names_word(rows, lines, Opener::In);
-    let outputs = names_word(rows, lines, Opener::Out);
+    let kind = kind_number(sheet);
+    let tact = period(sheet);
+    let cells = names_word(sheet, Opener::Cell);
+    let inputs = names_word(sheet, Opener::In);
+    let outputs = names_word(sheet, Opener::Out);
     [
         kind,
         tact,
@@ -120,14 +119,13 @@ fn head_words(rows: &[Row], lines: usize, processes: usize, instructions: usize)
 }
 
 // Writes the head of a code for so many processes and instructions.
-fn write_head(rows: &[Row], lines: usize, processes: usize, instructions: usize, code: &mut [i32])
-    requires few { lines ≤ 32768 }
+fn write_head(sheet: Sheet, processes: usize, instructions: usize, code: &mut [i32])
     requires counted { processes ≤ 32768 }
     requires small { instructions ≤ 4096 }
     requires room { 7 ≤ length code.old }
-    ensures { code.new ≡ over 0 (head_words (lines_at rows.now 0 lines) processes instructions) code.old }
+    ensures { code.new ≡ over 0 (head_words (lines_of sheet.entry) processes instructions) code.old }
 {
-    let words = head_words(rows, lines, processes, instructions);
+    let words = head_words(sheet, processes, instructions);
     code[..HEAD].copy_from_slice(&words);
 }
 
@@ -168,21 +166,20 @@ fn write_process(rows: &[Row], first: usize, states: usize, p: usize, code: &mut
 }
 
 // Writes the words of all processes.
-fn write_processes(rows: &[Row], lines: usize, code: &mut [i32])
-    requires few { lines ≤ 32768 }
-    requires small { processes_size (processes_of (lines_at rows.now 0 lines)) ≤ 4096 }
-    requires room { 7 + 17 * length (processes_of (lines_at rows.now 0 lines)) ≤ length code.old }
-    ensures { code.new ≡ over 7 (process_words (process_entries 0 (processes_of (lines_at rows.now 0 lines))) []) code.old }
+fn write_processes(sheet: Sheet, code: &mut [i32])
+    requires small { processes_size (processes_of (lines_of sheet)) ≤ 4096 }
+    requires room { 7 + 17 * length (processes_of (lines_of sheet)) ≤ length code.old }
+    ensures { code.new ≡ over 7 (process_words (process_entries 0 (processes_of (lines_of sheet.entry))) []) code.old }
 {
     let mut at = 0;
     let mut p = 0;
     let mut w = HEAD;
-    for i in 0..lines {
-        let next = next_row(rows, at);
-        if is_line(rows, at, Opener::Proc) {
-            let states = count_states(rows, next, lines - (i + 1));
-            let size = size_states(rows, next, states);
-            write_process(rows, next, states, p, code, w);
+    for i in 0..sheet.lines {
+        let next = next_row(sheet.rows, at);
+        if is_line(sheet.rows, at, Opener::Proc) {
+            let states = count_states(sheet.rows, next, sheet.lines - (i + 1));
+            let size = size_states(sheet.rows, next, states);
+            write_process(sheet.rows, next, states, p, code, w);
             p += size;
             w += 1 + ENTRIES;
         }
@@ -191,21 +188,14 @@ fn write_processes(rows: &[Row], lines: usize, code: &mut [i32])
 }
 
 // Writes the head and the words of all processes, for so many processes and instructions.
-pub(crate) fn write_front(
-    rows: &[Row],
-    lines: usize,
-    processes: usize,
-    instructions: usize,
-    code: &mut [i32],
-)
-    requires few { lines ≤ 32768 }
-    requires within { processes ≤ lines }
-    requires counted { processes ≡ length (processes_of (lines_at rows.now 0 lines)) }
-    requires measured { instructions ≡ processes_size (processes_of (lines_at rows.now 0 lines)) }
+pub(crate) fn write_front(sheet: Sheet, processes: usize, instructions: usize, code: &mut [i32])
+    requires within { processes ≤ sheet.lines }
+    requires counted { processes ≡ length (processes_of (lines_of sheet)) }
+    requires measured { instructions ≡ processes_size (processes_of (lines_of sheet)) }
     requires small { instructions ≤ 4096 }
     requires room { 7 + 17 * processes ≤ length code.old }
-    ensures { code.new ≡ over 0 (front_words (lines_at rows.now 0 lines)) code.old }
+    ensures { code.new ≡ over 0 (front_words (lines_of sheet.entry)) code.old }
 {
-    write_head(rows, lines, processes, instructions, code);
-    write_processes(rows, lines, code);
+    write_head(sheet, processes, instructions, code);
+    write_processes(sheet, code);
 }

@@ -7,5 +7,7 @@ mod expression;
 mod front;
 mod meaning;
 mod process;
+mod sheet;
+mod site;
 mod statement;
 pub mod translate;

@@ -11,6 +11,7 @@ ghost use Rattle.language.specs.declared.house.Opener.TheVariants.{State};
 ghost use Rattle.language.specs.Pushes.{thing_source, target_instr};
 ghost use Rattle.translator.specs.Writing.{names_at, source_operand, operand};
 
+use crate::sheet::Sheet;
 use flat::instr::{Instr, Source};
 use language::house::Opener;
 use language::view::{digits_at, word_at};
@@ -34,27 +35,40 @@ pub(crate) fn count_at(rows: &[Row], at: usize) -> usize
 }
 
 // What the name at a row pushes.
-pub(crate) fn source_at(rows: &[Row], lines: usize, at: usize) -> Source
-    ensures is { result ≡ thing_source (otherwise (Constant (pos 0)) (thing (names_at rows.now lines) (word_at rows.now at))) }
-    ensures below { source_operand result ≤ lines }
+pub(crate) fn source_at(sheet: Sheet, at: usize) -> Source
+    ensures is { result ≡ thing_source (otherwise (Constant (pos 0)) (thing (names_at sheet.entry) (word_at sheet.entry.rows.now at))) }
+    ensures below { source_operand result ≤ sheet.entry.lines }
 {
-    thing_named(rows, lines, word_at(rows, at)).map_or(Source::Lit(0), Source::from)
+    thing_named(sheet.rows, sheet.lines, word_at(sheet.rows, at)).map_or(
+        Source::Lit(0),
+        Source::from,
+    )
 }
 
 // The instruction that puts a value under the name at a row.
-pub(crate) fn target_at(rows: &[Row], lines: usize, at: usize) -> Instr
-    ensures is { result ≡ target_instr (otherwise (CellTarget 0) (target (names_at rows.now lines) (word_at rows.now at))) }
-    ensures below { operand result ≤ lines }
+pub(crate) fn target_at(sheet: Sheet, at: usize) -> Instr
+    ensures is { result ≡ target_instr (otherwise (CellTarget 0) (target (names_at sheet.entry) (word_at sheet.entry.rows.now at))) }
+    ensures below { operand result ≤ sheet.entry.lines }
 {
-    target_named(rows, lines, word_at(rows, at)).map_or(Instr::Keep(0), Instr::from)
+    target_named(sheet.rows, sheet.lines, word_at(sheet.rows, at)).map_or(
+        Instr::Keep(0),
+        Instr::from,
+    )
 }
 
 // The number of the process whose name stands at a row.
-pub(crate) fn process_at(rows: &[Row], lines: usize, at: usize) -> usize
-    ensures is { result ≡ process (names_at rows.now lines) (word_at rows.now at) }
-    ensures below { result ≤ lines }
+pub(crate) fn process_at(sheet: Sheet, at: usize) -> usize
+    ensures is { result ≡ process (names_at sheet.entry) (word_at sheet.entry.rows.now at) }
+    ensures below { result ≤ sheet.entry.lines }
 {
-    find_name(rows, 0, lines, Opener::Proc, word_at(rows, at)).unwrap_or(0)
+    find_name(
+        sheet.rows,
+        0,
+        sheet.lines,
+        Opener::Proc,
+        word_at(sheet.rows, at),
+    )
+    .unwrap_or(0)
 }
 
 // The number, among the states of lines from a row on, of the one whose name stands at a row.

@@ -5,10 +5,12 @@ ghost use Rattle.language.specs.OnSheet.{line_at, lines_at};
 ghost use Rattle.language.specs.Program.{bound};
 ghost use Rattle.language.specs.Resolve.{program};
 ghost use Rattle.language.specs.Sizes.{capped, act_size};
-ghost use Rattle.translator.specs.Writing.{names_at, states_size, processes_size, processes_put, StatesEmitted};
+ghost use Rattle.translator.specs.Writing.{lines_of, names_at, states_size, processes_size, processes_put, StatesEmitted};
 
 use crate::encode::put;
-use crate::statement::{Site, emit_body};
+use crate::sheet::Sheet;
+use crate::site::Site;
+use crate::statement::emit_body;
 use flat::instr::Instr;
 use language::house::Opener;
 use language::line::is_line;
@@ -57,54 +59,53 @@ pub(crate) fn size_states(rows: &[Row], first: usize, states: usize) -> usize
 
 // Puts the bodies of so many state lines of a process from a row on, an end behind each; answers the place behind them, and the most that run.
 fn emit_states(
-    rows: &[Row],
-    lines: usize,
+    sheet: Sheet,
     own: usize,
     first: usize,
     states: usize,
     code: &mut [i32],
     p: usize,
 ) -> (usize, usize)
-    requires few { (lines ≤ 32768) × ((own ≤ 32768) × (states ≤ 32768)) }
+    requires few { (own ≤ 32768) × (states ≤ 32768) }
     requires short { length code.old ≤ 8192 }
-    requires room { 2 * (p + states_size (lines_at rows.now first states)) ≤ length code.old }
-    ensures { StatesEmitted (names_at rows.now lines) own (lines_at rows.now first states) p code.old code.new result }
+    requires room { 2 * (p + states_size (lines_at sheet.rows.now first states)) ≤ length code.old }
+    ensures { StatesEmitted (names_at sheet.entry) own (lines_at sheet.entry.rows.now first states) p code.old code.new result }
 {
     let mut at = first;
     let mut next = p;
     let mut most: usize = 0;
     for here in 0..states {
         let site = Site {
-            lines,
+            sheet,
             own,
             first,
             states,
             here,
         };
-        let (end, m) = emit_body(rows, site, at, code, next);
+        let (end, m) = emit_body(site, at, code, next);
         next = put(code, end, Instr::End);
         most = most.max(m + 1);
-        at = next_row(rows, at);
+        at = next_row(sheet.rows, at);
     }
     (next, most)
 }
 
 // How many processes lines have, and how many instructions all their bodies take.
-pub(crate) fn measure(rows: &[Row], lines: usize) -> (usize, usize)
-    requires small { processes_size (processes (lines_at rows.now 0 lines)) ≤ 4096 }
-    ensures count { result.0 ≡ length (processes (lines_at rows.now 0 lines)) }
-    ensures within { result.0 ≤ lines }
-    ensures size { result.1 ≡ processes_size (processes (lines_at rows.now 0 lines)) }
+pub(crate) fn measure(sheet: Sheet) -> (usize, usize)
+    requires small { processes_size (processes (lines_of sheet)) ≤ 4096 }
+    ensures count { result.0 ≡ length (processes (lines_of sheet.entry)) }
+    ensures within { result.0 ≤ sheet.entry.lines }
+    ensures size { result.1 ≡ processes_size (processes (lines_of sheet.entry)) }
 {
     let mut at = 0;
     let mut count = 0;
     let mut size = 0;
-    for i in 0..lines {
-        let next = next_row(rows, at);
-        if is_line(rows, at, Opener::Proc) {
-            let states = count_states(rows, next, lines - (i + 1));
+    for i in 0..sheet.lines {
+        let next = next_row(sheet.rows, at);
+        if is_line(sheet.rows, at, Opener::Proc) {
+            let states = count_states(sheet.rows, next, sheet.lines - (i + 1));
             count += 1;
-            size += size_states(rows, next, states);
+            size += size_states(sheet.rows, next, states);
         }
         at = next;
     }
@@ -112,22 +113,21 @@ pub(crate) fn measure(rows: &[Row], lines: usize) -> (usize, usize)
 }
 
 // Puts the bodies of all processes, from place 0 on; answers the sum of the most that run of each.
-pub(crate) fn emit_processes(rows: &[Row], lines: usize, code: &mut [i32]) -> usize
-    requires few { lines ≤ 32768 }
+pub(crate) fn emit_processes(sheet: Sheet, code: &mut [i32]) -> usize
     requires short { length code.old ≤ 8192 }
-    requires room { 2 * processes_size (processes (lines_at rows.now 0 lines)) ≤ length code.old }
-    ensures bound { result ≡ bound (program (lines_at rows.now 0 lines)) }
-    ensures wrote { code.new ≡ processes_put (names_at rows.now lines) 0 0 (processes (lines_at rows.now 0 lines)) code.old }
+    requires room { 2 * processes_size (processes (lines_of sheet)) ≤ length code.old }
+    ensures bound { result ≡ bound (program (lines_of sheet.entry)) }
+    ensures wrote { code.new ≡ processes_put (names_at sheet.entry) 0 0 (processes (lines_of sheet.entry)) code.old }
 {
     let mut at = 0;
     let mut own = 0;
     let mut p = 0;
     let mut total = 0;
-    for i in 0..lines {
-        let next = next_row(rows, at);
-        if is_line(rows, at, Opener::Proc) {
-            let states = count_states(rows, next, lines - (i + 1));
-            let (behind, most) = emit_states(rows, lines, own, next, states, code, p);
+    for i in 0..sheet.lines {
+        let next = next_row(sheet.rows, at);
+        if is_line(sheet.rows, at, Opener::Proc) {
+            let states = count_states(sheet.rows, next, sheet.lines - (i + 1));
+            let (behind, most) = emit_states(sheet, own, next, states, code, p);
             own += 1;
             p = behind;
             total += most;

@@ -1,26 +1,26 @@
 // The call that translates a text.
-ghost use Rattle.std.specs.Prelude.{◌≡◌, ◌≤◌, length};
+ghost use Rattle.std.specs.Prelude.{◌≡◌, length};
 ghost use Rattle.text.specs.Sheet.{forms_at};
-ghost use Rattle.language.specs.OnSheet.{lines_at};
 ghost use Rattle.language.specs.Translation.{answer_for, translation};
 ghost use Rattle.translator.specs.Outcome.{told, outcome};
+ghost use Rattle.translator.specs.Writing.{lines_of};
 
 use crate::emit::{count_words, write_code};
+use crate::sheet::Sheet;
 use checks::check::check;
 use checks::refusal::Refusal;
 use text::read::read;
 use text::row::Row;
 
 // Checks the lines on a sheet and writes their code.
-fn write_checked(rows: &[Row], lines: usize, code: &mut [i32]) -> Result<(usize, usize), Refusal>
-    requires { lines ≤ 32768 }
-    ensures { (record { told = told result; code = code.new }) ≡ outcome (answer_for (length code.old) (forms_at rows.now 0 lines) (lines_at rows.now 0 lines)) code.old }
+fn write_checked(sheet: Sheet, code: &mut [i32]) -> Result<(usize, usize), Refusal>
+    ensures { (record { told = told result; code = code.new }) ≡ outcome (answer_for (length code.old) (forms_at sheet.entry.rows.now 0 sheet.entry.lines) (lines_of sheet.entry)) code.old }
 {
-    check(rows, lines)?;
-    if code.len() < count_words(rows, lines) {
+    check(sheet.rows, sheet.lines)?;
+    if code.len() < count_words(sheet) {
         return Err(Refusal::ShortCode);
     }
-    Ok(write_code(rows, lines, code))
+    Ok(write_code(sheet, code))
 }
 
 // Translates a text: the words of its flat code are written in front of the code, and their number and the bound of a scan's steps
@@ -33,5 +33,9 @@ pub fn translate<'a>(
     ensures { (record { told = told result; code = code.new }) ≡ outcome (translation text.now (length sheet.old) (length code.old)) code.old }
 {
     let page = read(text, sheet)?;
-    write_checked(sheet, page.lines, code)
+    let read = Sheet {
+        rows: sheet,
+        lines: page.lines,
+    };
+    write_checked(read, code)
 }

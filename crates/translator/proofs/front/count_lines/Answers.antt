@@ -11,14 +11,14 @@ pub loop-i-preserved : goal.loop-i-preserved
 loop-i-preserved c =
     elim c.if-is_line.branch [
       | then-is_line w ↦
-          let h = count_on c.args.rows.now c.args.opener c.loop-i.at c.next_row-at.result c.args.lines c.loop-i._i c.loop-i-test.true c.next_row-at.ensures w.if-is_line.ensures in
+          let h = count_on c.args.sheet.rows.now c.args.opener c.loop-i.at c.next_row-at.result c.args.sheet.lines c.loop-i._i c.loop-i-test.true c.next_row-at.ensures w.if-is_line.ensures in
           (omega arith, omega arith)
       | else-is_line w ↦
-          let h = count_off c.args.rows.now c.args.opener c.loop-i.at c.next_row-at.result c.args.lines c.loop-i._i c.loop-i-test.true c.next_row-at.ensures w.if-is_line.ensures in
+          let h = count_off c.args.sheet.rows.now c.args.opener c.loop-i.at c.next_row-at.result c.args.sheet.lines c.loop-i._i c.loop-i-test.true c.next_row-at.ensures w.if-is_line.ensures in
           (omega arith, omega arith)
     ]
 
 pub returns : goal.returns
 returns c =
-    let h = count_out c.args.rows.now c.args.opener c.loop-i.at c.args.lines c.loop-i._i (omega arith) in
+    let h = count_out c.args.sheet.rows.now c.args.opener c.loop-i.at c.args.sheet.lines c.loop-i._i (omega arith) in
     record { is = omega arith; within = omega arith }

@@ -5,4 +5,4 @@ use Rattle.language.specs.OnSheet.{lines_at}
 use Rattle.translator.proofs.front.count_lines.Given as goal
 
 abbrev pub invariant-loop-i : goal.invariant-loop-i
-invariant-loop-i l = (l.found ≤ l._i) × (l.found + count (is l.opener) (lines_at l.rows l.at (l.lines - l._i)) ≡ count (is l.opener) (lines_at l.rows 0 l.lines))
+invariant-loop-i l = (l.found ≤ l._i) × (l.found + count (is l.opener) (lines_at l.sheet.rows.now l.at (l.sheet.lines - l._i)) ≡ count (is l.opener) (lines_at l.sheet.rows.now 0 l.sheet.lines))

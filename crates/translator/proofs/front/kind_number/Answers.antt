@@ -10,16 +10,16 @@ loop-i-init c = rw sub-zero
 
 pub returns-then-is_line : goal.returns-then-is_line
 returns-then-is_line c =
-    let h = kind_on c.args.rows.now c.loop-i.at c.args.lines c.loop-i._i c.loop-i-test.true c.if-is_line.ensures in
+    let h = kind_on c.args.sheet.rows.now c.loop-i.at c.args.sheet.lines c.loop-i._i c.loop-i-test.true c.if-is_line.ensures in
     let e = c.kind_at.ensures ∙ sym h ∙ c.loop-i.invariant in
     search rules
 
 pub loop-i-preserved : goal.loop-i-preserved
 loop-i-preserved c =
-    let h = kind_off c.args.rows.now c.loop-i.at c.next_row-at.result c.args.lines c.loop-i._i c.loop-i-test.true c.next_row-at.ensures c.if-is_line.ensures in
+    let h = kind_off c.args.sheet.rows.now c.loop-i.at c.next_row-at.result c.args.sheet.lines c.loop-i._i c.loop-i-test.true c.next_row-at.ensures c.if-is_line.ensures in
     sym h ∙ c.loop-i.invariant
 
 pub returns : goal.returns
 returns c =
-    let h = ap kind_number (lines_none c.args.rows.now c.loop-i.at c.args.lines c.loop-i._i (omega arith)) in
+    let h = ap kind_number (lines_none c.args.sheet.rows.now c.loop-i.at c.args.sheet.lines c.loop-i._i (omega arith)) in
     sym h ∙ c.loop-i.invariant

@@ -5,4 +5,4 @@ use Rattle.translator.proofs.Fronts.{FrontsGoing}
 use Rattle.translator.proofs.front.write_processes.Given as goal
 
 abbrev pub invariant-loop-i : goal.invariant-loop-i
-invariant-loop-i l = FrontsGoing (processes (lines_at l.rows 0 l.lines)) (processes (lines_at l.rows l.at (l.lines - l.i))) l.p l.w l.initial.code l.code
+invariant-loop-i l = FrontsGoing (processes (lines_at l.sheet.rows.now 0 l.sheet.lines)) (processes (lines_at l.sheet.rows.now l.at (l.sheet.lines - l.i))) l.p l.w l.initial.code l.code

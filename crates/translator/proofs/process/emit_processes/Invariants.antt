@@ -8,5 +8,5 @@ use Rattle.translator.proofs.process.emit_processes.Given as goal
 abbrev pub invariant-loop-i : goal.invariant-loop-i
 invariant-loop-i l =
     (l.own ≤ l.i)
-    × ProcessesGoing (names_at l.rows l.lines) (processes (lines_at l.rows 0 l.lines)) (processes (lines_at l.rows l.at (l.lines - l.i)))
+    × ProcessesGoing (names_at l.sheet) (processes (lines_at l.sheet.rows.now 0 l.sheet.lines)) (processes (lines_at l.sheet.rows.now l.at (l.sheet.lines - l.i)))
     l.own l.p l.total l.initial.code l.code

@@ -10,13 +10,13 @@ loop-i-init c = rw sub-zero (omega arith, zero-add _, zero-add _)
 
 pub size_states-size-requires : goal.size_states-size-requires
 size_states-size-requires c =
-    let h = ap processes_size (process_on c.args.rows.now c.loop-i.at c.next_row-next.result c.args.lines c.loop-i.i c.count_states-states.result c.loop-i-test.true
+    let h = ap processes_size (process_on c.args.sheet.rows.now c.loop-i.at c.next_row-next.result c.args.sheet.lines c.loop-i.i c.count_states-states.result c.loop-i-test.true
     c.next_row-next.ensures c.if-is_line.ensures c.count_states-states.ensures.is) in
     search rules
 
 pub overflow_add-size : goal.overflow_add-size
 overflow_add-size c =
-    let h = ap processes_size (process_on c.args.rows.now c.loop-i.at c.next_row-next.result c.args.lines c.loop-i.i c.count_states-states.result c.loop-i-test.true
+    let h = ap processes_size (process_on c.args.sheet.rows.now c.loop-i.at c.next_row-next.result c.args.sheet.lines c.loop-i.i c.count_states-states.result c.loop-i-test.true
     c.next_row-next.ensures c.if-is_line.ensures c.count_states-states.ensures.is) in
     search rules
 
@@ -24,13 +24,13 @@ pub loop-i-preserved : goal.loop-i-preserved
 loop-i-preserved c =
     elim c.if-is_line.branch [
       | then-is_line w ↦
-          let e = process_on c.args.rows.now c.loop-i.at c.next_row-next.result c.args.lines c.loop-i.i w.count_states-states.result c.loop-i-test.true
+          let e = process_on c.args.sheet.rows.now c.loop-i.at c.next_row-next.result c.args.sheet.lines c.loop-i.i w.count_states-states.result c.loop-i-test.true
           c.next_row-next.ensures w.if-is_line.ensures w.count_states-states.ensures.is in
           let h = ap processes_size e in
           let k = ap length e in
           (omega arith, omega arith, omega arith)
       | else-is_line w ↦
-          let e = process_off c.args.rows.now c.loop-i.at c.next_row-next.result c.args.lines c.loop-i.i c.loop-i-test.true c.next_row-next.ensures w.if-is_line.ensures in
+          let e = process_off c.args.sheet.rows.now c.loop-i.at c.next_row-next.result c.args.sheet.lines c.loop-i.i c.loop-i-test.true c.next_row-next.ensures w.if-is_line.ensures in
           let h = ap processes_size e in
           let k = ap length e in
           (omega arith, omega arith, omega arith)
@@ -38,7 +38,7 @@ loop-i-preserved c =
 
 pub returns : goal.returns
 returns c =
-    let e = process_out c.args.rows.now c.loop-i.at c.args.lines c.loop-i.i (omega arith) in
+    let e = process_out c.args.sheet.rows.now c.loop-i.at c.args.sheet.lines c.loop-i.i (omega arith) in
     let h = ap processes_size e in
     let k = ap length e in
     record { count = omega arith; within = omega arith; size = omega arith }

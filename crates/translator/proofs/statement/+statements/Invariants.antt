@@ -18,5 +18,5 @@ decreases-emit_guarded l = 3 * l.left + 1
 
 abbrev pub invariant-emit_acts-loop-i : goal.invariant-emit_acts-loop-i
 invariant-emit_acts-loop-i l =
-    Going (names_at l.rows l.site.lines) (spot_at l.rows l.site) (acts_of (act_at l.left l.rows) l.rows l.from l.count)
-    (acts_of (act_at l.left l.rows) l.rows l.at (l.count - l._i)) l.p l.next l.most l.initial.code l.code
+    Going (names_at l.site.sheet) (spot_at l.site) (acts_of (act_at l.left l.site.sheet.rows.now) l.site.sheet.rows.now l.from l.count)
+    (acts_of (act_at l.left l.site.sheet.rows.now) l.site.sheet.rows.now l.at (l.count - l._i)) l.p l.next l.most l.initial.code l.code

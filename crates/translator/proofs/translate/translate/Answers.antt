@@ -8,8 +8,8 @@ use Rattle.language.proofs.OnSheets.{fit_lines_read}
 use Rattle.translator.proofs.Outcomes.{turned_away, unread_outcome, read_answer}
 use Rattle.translator.proofs.translate.translate.Goals as goal
 
-pub write_checked-requires : goal.write_checked-requires
-write_checked-requires c = few_lines c.args.text.now (length c.args.sheet.now) c.in_ok-page.page c.in_ok-page.ensures.answer
+pub invariant_of-read : goal.invariant_of-read
+invariant_of-read c = record { few = few_lines c.args.text.now (length c.args.sheet.now) c.in_ok-page.page c.in_ok-page.ensures.answer }
 
 pub returns : goal.returns
 returns c =
