@@ -1,6 +1,8 @@
 pub mod Ways
+pub mod Openers
 pub mod Depth
 pub mod Lines
 pub mod Sizes
 pub mod Readings
 pub mod OnSheets
+pub mod Tests

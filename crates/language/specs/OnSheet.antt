@@ -1,8 +1,9 @@
 -- Expressions, statements and lines by the rows at which their parts begin. Shape is not tested here: where a form is what it should be, these are what the grammar reads (proofs/OnSheets).
-use Rattle.std.specs.Prelude.{ℕ, zero, suc, ◌+◌, ◌-◌, cond, List, [], ◌∷◌, length, pos, Some, None, Option, ◌==◌, nat_lt}
-use Rattle.text.specs.Sheet.{row_at, next_row}
+use Rattle.std.specs.Prelude.{ℕ, zero, suc, ◌+◌, ◌-◌, cond, List, [], ◌∷◌, length, map, pos, Some, None, Option, ◌==◌, nat_lt}
+use Rattle.text.specs.Sheet.{row_at, next_row, starts}
+use Rattle.text.specs.declared.items.Items.{Items}
 use Rattle.text.specs.declared.row.Row.{Row}
-use Rattle.text.specs.declared.row.Row.TheVariants.{Word as WordRow, Number as NumberRow, Items}
+use Rattle.text.specs.declared.row.Row.TheVariants.{Word as WordRow, Number as NumberRow, Items as FormRow}
 use Rattle.language.specs.Basics.{Word, and_then, otherwise}
 use Rattle.language.specs.Named.{Term, Act, Line}
 use Rattle.language.specs.House.{house}
@@ -40,7 +41,7 @@ fourth_row rows at = next_row rows (third_row rows at)
 abbrev pub count_in : Row → ℕ
 count_in (WordRow w) = 0
 count_in (NumberRow w) = 0
-count_in (Items k n) = k
+count_in (FormRow k n) = k
 
 abbrev pub count_at : List Row → ℕ → ℕ
 count_at rows at = count_in (row_at rows at)
@@ -49,7 +50,7 @@ count_at rows at = count_in (row_at rows at)
 abbrev pub word_in : Row → Word
 word_in (WordRow w) = w.now
 word_in (NumberRow w) = []
-word_in (Items k n) = []
+word_in (FormRow k n) = []
 
 abbrev pub word_at : List Row → ℕ → Word
 word_at rows at = word_in (row_at rows at)
@@ -58,7 +59,7 @@ word_at rows at = word_in (row_at rows at)
 abbrev pub digits_in : Row → List ℕ
 digits_in (WordRow w) = []
 digits_in (NumberRow w) = w.now
-digits_in (Items k n) = []
+digits_in (FormRow k n) = []
 
 abbrev pub digits_at : List Row → ℕ → List ℕ
 digits_at rows at = digits_in (row_at rows at)
@@ -67,7 +68,7 @@ digits_at rows at = digits_in (row_at rows at)
 abbrev pub house_in : Row → Option House
 house_in (WordRow w) = house w.now
 house_in (NumberRow w) = None
-house_in (Items k n) = None
+house_in (FormRow k n) = None
 
 abbrev pub house_at : List Row → ℕ → Option House
 house_at rows at = house_in (row_at rows at)
@@ -95,7 +96,7 @@ house_view rows at (Some (KindName k)) = Odd
 abbrev pub row_view : List Row → ℕ → Row → TermView
 row_view rows at (WordRow w) = Name
 row_view rows at (NumberRow w) = Number
-row_view rows at (Items k n) = house_view rows at (house_at rows (inner_row rows at))
+row_view rows at (FormRow k n) = house_view rows at (house_at rows (inner_row rows at))
 
 abbrev pub term_view : List Row → ℕ → TermView
 term_view rows at = row_view rows at (row_at rows at)
@@ -141,10 +142,14 @@ abbrev pub term_at : ℕ → List Row → ℕ → Term
 term_at zero rows at = Term.number []
 term_at (suc d) rows at = term_of rows at (term_at d rows) (term_view rows at)
 
+-- Statements one behind another.
+abbrev pub sequence : List Act → Act
+sequence [] = Act.pass
+sequence (a ∷ others) = Act.then a (sequence others)
+
 -- The next k statements from row p on, one behind another.
 abbrev pub acts_of : (ℕ → Act) → List Row → ℕ → ℕ → Act
-acts_of A rows p zero = Act.pass
-acts_of A rows p (suc k) = Act.then (A p) (acts_of A rows (next_row rows p) k)
+acts_of A rows p k = sequence (map A (starts rows p k))
 
 abbrev pub change_of : List Row → Change → Act
 change_of rows (Go s) = Act.go (word_at rows s)
@@ -192,5 +197,8 @@ line_at rows at = line_of rows at (opener_at rows at)
 
 -- The m lines from a row on.
 abbrev pub lines_at : List Row → ℕ → ℕ → List Line
-lines_at rows p zero = []
-lines_at rows p (suc m) = line_at rows p ∷ lines_at rows (next_row rows p) m
+lines_at rows p m = map (line_at rows) (starts rows p m)
+
+-- The lines that items are.
+abbrev pub lines_of : Items → List Line
+lines_of items = lines_at items.rows.now items.first items.count

@@ -5,8 +5,8 @@ ghost use Rattle.language.specs.House.{opener_words, kind_words, operation_words
 
 use flat::instr::Binary;
 
-// The word that begins a line.
-#[derive(Clone, Copy)]
+// The word that begins a line; the sorts of lines in their order.
+#[derive(Clone, Copy, PartialEq, Eq, PartialOrd, Ord, Debug)]
 pub enum Opener {
     Kind,
     Tact,
@@ -19,7 +19,7 @@ pub enum Opener {
 }
 
 // A question about a process.
-#[derive(Clone, Copy)]
+#[derive(Clone, Copy, PartialEq, Eq, Debug)]
 pub enum Enquiry {
     Active,
     Stopped,
@@ -38,7 +38,7 @@ pub enum TermHead {
 }
 
 // The word that begins a statement.
-#[derive(Clone, Copy)]
+#[derive(Clone, Copy, PartialEq, Eq, Debug)]
 pub enum ActHead {
     Put,
     If,

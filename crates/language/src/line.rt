@@ -38,5 +38,5 @@ pub fn sort_at(rows: &[Row], at: usize) -> Opener
 pub fn is_line(rows: &[Row], at: usize, opener: Opener) -> bool
     ensures { result ≡ is opener (line_at rows.now at) }
 {
-    rank(opener) == rank(sort_at(rows, at))
+    opener == sort_at(rows, at)
 }

@@ -16,6 +16,7 @@ mod tally;
 use crate::large::first_large;
 use crate::past::first_past;
 use crate::present::is_lacking;
+use text::items::Items;
 use text::row::Row;
 
 // The smaller of two line numbers, of those that are there.
@@ -35,7 +36,11 @@ fn earliest(a: Option<usize>, b: Option<usize>) -> Option<usize>
 pub fn first_past_limit(rows: &[Row], lines: usize) -> Option<usize>
     ensures { result ≡ first_past_limit (forms_at rows.now 0 lines) (lines_at rows.now 0 lines) }
 {
-    if is_lacking(rows, lines) {
+    if is_lacking(Items {
+        rows,
+        first: 0,
+        count: lines,
+    }) {
         Some(0)
     } else {
         earliest(first_large(rows, lines), first_past(rows, lines))

@@ -3,32 +3,25 @@ ghost use Rattle.std.specs.Prelude.{◌≡◌};
 ghost use Rattle.language.specs.Basics.{any};
 ghost use Rattle.language.specs.Causes.{lacking};
 ghost use Rattle.language.specs.Lines.{is};
-ghost use Rattle.language.specs.OnSheet.{lines_at};
+ghost use Rattle.language.specs.OnSheet.{lines_of};
 
 use language::house::Opener;
 use language::line::is_line;
-use text::row::{Row, next_row};
+use text::items::Items;
 
 // Whether one of the lines is of a sort.
-fn has_line(rows: &[Row], lines: usize, sort: Opener) -> bool
-    ensures { result ≡ any (is sort) (lines_at rows.now 0 lines) }
+fn has_line(lines: Items, sort: Opener) -> bool
+    ensures { result ≡ any (is sort) (lines_of lines.entry) }
 {
-    let mut at = 0;
-    for _ in 0..lines {
-        if is_line(rows, at, sort) {
-            return true;
-        }
-        at = next_row(rows, at);
-    }
-    false
+    lines.iter().any(|at| is_line(lines.rows, at, sort))
 }
 
 // Whether the kind, the tact or a process is missing.
-pub fn is_lacking(rows: &[Row], lines: usize) -> bool
-    ensures { result ≡ lacking (lines_at rows.now 0 lines) }
+pub fn is_lacking(lines: Items) -> bool
+    ensures { result ≡ lacking (lines_of lines.entry) }
 {
-    let has_kind = has_line(rows, lines, Opener::Kind);
-    let has_tact = has_line(rows, lines, Opener::Tact);
-    let has_process = has_line(rows, lines, Opener::Proc);
+    let has_kind = has_line(lines, Opener::Kind);
+    let has_tact = has_line(lines, Opener::Tact);
+    let has_process = has_line(lines, Opener::Proc);
     !(has_kind && has_tact && has_process)
 }

@@ -7,7 +7,8 @@ ghost use Rattle.language.specs.OnSheet.{act_at, body_at, line_at};
 use language::house::Opener;
 use language::view::{ActView, act_view, count_at, digits_at, opener_at, second_row, third_row};
 use measure::value::value;
-use text::row::{Row, next_row};
+use text::items::Items;
+use text::row::Row;
 
 // The longest period, and the longest timeout.
 const LONGEST_TACT: i32 = 60_000;
@@ -43,13 +44,15 @@ fn is_timely(rows: &[Row], at: usize) -> bool
 fn is_body_timely(rows: &[Row], at: usize) -> bool
     ensures { result ≡ all_timely (body_at rows.now at) }
 {
-    let mut item = third_row(rows, at);
-    let count = count_at(rows, at).saturating_sub(2);
-    for _ in 0..count {
+    let body = Items {
+        rows,
+        first: third_row(rows, at),
+        count: count_at(rows, at).saturating_sub(2),
+    };
+    for item in body.iter() {
         if !is_timely(rows, item) {
             return false;
         }
-        item = next_row(rows, item);
     }
     true
 }

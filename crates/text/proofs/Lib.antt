@@ -8,4 +8,5 @@ pub mod Back
 pub mod Forth
 pub mod Laws
 pub mod Sheets
+pub mod Starts
 pub mod Going

@@ -7,6 +7,7 @@ pub mod Print
 pub mod Valid
 pub mod Laws
 pub mod Sheet
+pub mod Items
 pub mod Page
 pub mod Machine
 pub mod Filling

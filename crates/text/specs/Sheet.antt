@@ -1,5 +1,5 @@
 -- What the rows of a sheet hold, for any rows.
-use Rattle.std.specs.Prelude.{ℕ, zero, suc, ◌+◌, ◌-◌, cond, List, [], ◌∷◌, length, nat_lt, slice_index_or}
+use Rattle.std.specs.Prelude.{ℕ, zero, suc, ◌+◌, ◌-◌, cond, List, [], ◌∷◌, length, map, nat_lt, slice_index_or}
 use Rattle.text.specs.Form.{Form, Forms, word, number, form, none, more, pack}
 use Rattle.text.specs.declared.row.Row.{Row}
 use Rattle.text.specs.declared.row.Row.TheVariants.{Word, Number, Items}
@@ -18,10 +18,14 @@ span (Items k n) = n
 abbrev pub next_row : List Row → ℕ → ℕ
 next_row rows at = cond (nat_lt (span (row_at rows at)) (length rows - at)) (at + 1 + span (row_at rows at)) (length rows)
 
--- the next k items from row p on, each read by f
+-- the rows at which the next k items from row p on begin
+abbrev pub starts : List Row → ℕ → ℕ → List ℕ
+starts rows p zero = []
+starts rows p (suc k) = p ∷ starts rows (next_row rows p) k
+
+-- those items, each read by f
 abbrev pub items_at : (ℕ → Form) → List Row → ℕ → ℕ → Forms
-items_at f rows p zero = none
-items_at f rows p (suc k) = more (f p) (items_at f rows (next_row rows p) k)
+items_at f rows p k = pack (map f (starts rows p k))
 
 -- what a row is, its items given by their number
 abbrev pub shape : (ℕ → Forms) → Row → Form
@@ -36,8 +40,7 @@ form_at (suc d) rows at = shape (items_at (form_at d rows) rows (at + 1)) (row_a
 
 -- the forms of m lines from row p on: twelve brackets deep, and the words and numbers inside
 abbrev pub forms_at : List Row → ℕ → ℕ → List Form
-forms_at rows p zero = []
-forms_at rows p (suc m) = form_at 13 rows p ∷ forms_at rows (next_row rows p) m
+forms_at rows p m = map (form_at 13 rows) (starts rows p m)
 
 abbrev mutual
   -- a row for each word, number and form

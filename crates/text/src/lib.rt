@@ -3,6 +3,7 @@
 
 mod class;
 mod filler;
+pub mod items;
 pub mod law;
 pub mod read;
 mod reader;

@@ -1,13 +1,16 @@
--- A line of the sort, and one of another.
-use Rattle.std.proofs.Common.{◌∙◌, arith}
+-- The test of a line is that of its row.
+use Rattle.std.proofs.Common.{◌∙◌, rules}
+use Rattle.std.proofs.lemmas.Iterator.Search.{any_from_yields_List}
+use borrow.Author.Tests.{tests}
+use Rattle.text.proofs.Starts.{walked}
+use Rattle.text.specs.Items.{starts_of}
 use Rattle.language.specs.Lines.{is}
-use Rattle.limits.proofs.Lines.{any_here, any_further}
+use Rattle.language.specs.OnSheet.{line_at}
+use Rattle.language.proofs.Tests.{any_read}
 use Rattle.limits.proofs.present.has_line.Goals as goal
 
-pub returns-then-is_line : goal.returns-then-is_line
-returns-then-is_line c =
-    any_here (is c.args.sort) c.args.rows.now c.loop.at c.args.lines c.loop.counter (omega arith) c.if-is_line.ensures ∙ c.loop.invariant
-
-pub loop-preserved : goal.loop-preserved
-loop-preserved c =
-    any_further (is c.args.sort) c.args.rows.now c.loop.at _ c.args.lines c.loop.counter (omega arith) c.next_row-at.ensures c.if-is_line.ensures ∙ c.loop.invariant
+pub returns : goal.returns
+returns c =
+    let rows = c.args.lines.rows.now in
+    any_from_yields_List (λ at. is c.args.sort (line_at rows at)) c.any.new.self _ _ c.any.ensures.ran (walked c.args.lines c.iter.ensures.rows) (λ x b q k. search (rules, tests))
+    ∙ any_read (is c.args.sort) (line_at rows) (starts_of c.args.lines)

@@ -1,8 +1,9 @@
 -- The statements that are left are timely exactly if all are.
-use Rattle.std.proofs.Common.{◌≡◌, ◌-◌}
+use Rattle.std.proofs.Common.{◌≡◌, map}
 use Rattle.language.specs.Causes.{all_timely}
-use Rattle.language.specs.OnSheet.{act_at, acts_of, body_at}
+use Rattle.language.specs.OnSheet.{act_at, sequence, body_at}
+use Rattle.text.specs.Items.{starts_left}
 use Rattle.limits.proofs.range.is_body_timely.Given as goal
 
-abbrev pub invariant-loop : goal.invariant-loop
-invariant-loop l = all_timely (acts_of (act_at 12 l.rows) l.rows l.item (l.count - l.counter)) ≡ all_timely (body_at l.rows l.at)
+abbrev pub invariant-loop-item : goal.invariant-loop-item
+invariant-loop-item l = all_timely (sequence (map (act_at 12 l.rows) (starts_left l.item-iterator))) ≡ all_timely (body_at l.rows l.at)

@@ -1,0 +1,18 @@
+-- So many items of a sheet, and a walk over them.
+use Rattle.std.specs.Prelude.{ℕ, List}
+use Rattle.text.specs.Form.{Form}
+use Rattle.text.specs.Sheet.{starts, forms_at}
+use Rattle.text.specs.declared.items.Items.{Items}
+use Rattle.text.specs.declared.items.Starts.{Starts}
+
+-- the rows at which items begin
+abbrev pub starts_of : Items → List ℕ
+starts_of items = starts items.rows.now items.first items.count
+
+-- those that a walk has not passed yet
+abbrev pub starts_left : Starts → List ℕ
+starts_left walk = starts walk.rows.now walk.at walk.left
+
+-- the forms of the lines that items are
+abbrev pub forms_of : Items → List Form
+forms_of items = forms_at items.rows.now items.first items.count
