@@ -1,7 +1,7 @@
 // So many items of a sheet, one behind another, and the walk over the rows at which they begin.
-ghost use Rattle.std.specs.Prelude.{◌≡◌, ◌<◌, ◌^◌, length};
+ghost use Rattle.std.specs.Prelude.{◌≡◌, ◌↔◌, ◌<◌, ◌^◌, length, IsNone, IfSome};
 ghost use Rattle.std.specs.Iterator.{YieldsFirst, item_count};
-ghost use Rattle.text.specs.Items.{starts_of, starts_left};
+ghost use Rattle.text.specs.Items.{starts_of, starts_left, IsBehind};
 
 use crate::row::{Row, next_row};
 
@@ -24,6 +24,21 @@ impl<'s, 'a> Items<'s, 'a> {
             at: self.first,
             left: self.count,
         }
+    }
+
+    // The row of the first, and the items behind it.
+    pub fn split_first(self) -> Option<(usize, Self)>
+        ensures none { IsNone result ↔ (self.entry.count ≡ 0) }
+        ensures first { IfSome result (λ r. r.0 ≡ self.entry.first) }
+        ensures behind { IfSome result (λ r. IsBehind self.entry r.1) }
+    {
+        let count = self.count.checked_sub(1)?;
+        let behind = Items {
+            rows: self.rows,
+            first: next_row(self.rows, self.first),
+            count,
+        };
+        Some((self.first, behind))
     }
 }
 

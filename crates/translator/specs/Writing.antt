@@ -14,7 +14,7 @@ use Rattle.language.specs.Named.{Term, number, named, two, isnt, both, either, a
 use Rattle.language.specs.Named.{Act, put, choose, when, pass, then, go, start, stop, next, restart, halt, fail, reset, after}
 use Rattle.text.specs.declared.row.Row.{Row}
 use Rattle.language.specs.Lines.{declared, body}
-use Rattle.language.specs.OnSheet.{lines_at}
+use Rattle.language.specs.OnSheet.{lines_at, lines_of}
 use Rattle.language.specs.Resolve.{Names, Spot, thing, target, process, expr, stmt, bodies, all_names}
 use Rattle.language.specs.Pushes.{thing_source, target_instr}
 use Rattle.language.specs.Compile.{longest, longest_of}
@@ -28,6 +28,7 @@ use Rattle.language.specs.declared.house.Enquiry.TheVariants as enquiry
 use Rattle.language.specs.declared.house.Opener.TheVariants.{State as StateLine}
 use Rattle.translator.specs.declared.sheet.Sheet.{Sheet}
 use Rattle.translator.specs.declared.site.Site.{Site}
+use Rattle.translator.specs.declared.group.StateLines.{StateLines}
 
 -- The number that an instruction's operand is, 0 where it has none or a signed one.
 abbrev pub source_operand : Source → ℕ
@@ -132,16 +133,17 @@ abbrev pub processes_put : Names → ℕ → ℕ → List (List Line) → List �
 processes_put n q p [] ws = ws
 processes_put n q p (g ∷ gs) ws = processes_put n (suc q) (p + states_size g) gs (states_put n q (declared StateLine g) 0 p g ws)
 
--- The lines of a text on its sheet, and what they declare.
-abbrev pub lines_of : Sheet → List Line
-lines_of sheet = lines_at sheet.rows.now 0 sheet.lines
-
+-- What the lines of a text declare.
 abbrev pub names_at : Sheet → Names
-names_at sheet = all_names (lines_of sheet)
+names_at sheet = all_names (lines_of sheet.lines)
+
+-- The state lines of a process on a sheet.
+abbrev pub states_on : Sheet → StateLines → List Line
+states_on sheet states = lines_at sheet.lines.rows.now states.first states.count
 
 -- Where a statement on a sheet stands.
 abbrev pub spot_at : Site → Spot
-spot_at site = record { own = site.own; states = declared StateLine (lines_at site.sheet.rows.now site.first site.states); here = site.here }
+spot_at site = record { own = site.own; states = declared StateLine (states_on site.sheet site.states); here = site.here }
 
 -- An expression was put from place p on; r has the place behind it and the longest way through it.
 pub record TermEmitted (n : Names) (t : Term) (p : ℕ) (old new : List ℤ) (r : ℕ × ℕ) : Type 0 where

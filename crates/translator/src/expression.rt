@@ -23,7 +23,7 @@ fn emit_enquiry(
 ) -> (usize, usize)
     requires short { length code.old ≤ 8192 }
     requires room { 2 * (p + enquiry_size enquiry) ≤ length code.old }
-    ensures { TermEmitted (names_at sheet.entry) (Term.ask enquiry (word_at sheet.entry.rows.now at)) p code.old code.new result }
+    ensures { TermEmitted (names_at sheet.entry) (Term.ask enquiry (word_at sheet.entry.lines.rows.now at)) p code.old code.new result }
 {
     let process = process_at(sheet, at);
     match enquiry {
@@ -48,11 +48,11 @@ fn emit_and(
     p: usize,
 ) -> (usize, usize)
     requires short { length code.old ≤ 8192 }
-    requires room { 2 * (p + term_size (Term.both (term_at left sheet.rows.now a) (term_at left sheet.rows.now b))) ≤ length code.old }
-    ensures { TermEmitted (names_at sheet.entry) (Term.both (term_at left sheet.entry.rows.now a) (term_at left sheet.entry.rows.now b)) p code.old code.new result }
+    requires room { 2 * (p + term_size (Term.both (term_at left sheet.lines.rows.now a) (term_at left sheet.lines.rows.now b))) ≤ length code.old }
+    ensures { TermEmitted (names_at sheet.entry) (Term.both (term_at left sheet.entry.lines.rows.now a) (term_at left sheet.entry.lines.rows.now b)) p code.old code.new result }
 {
     let (unless, m) = emit_term(sheet, a, left, code, p);
-    let no = unless + 1 + term_size(sheet.rows, b, left) + 2;
+    let no = unless + 1 + term_size(sheet.lines.rows, b, left) + 2;
     let second = put(code, unless, Instr::Unless(no));
     let (test, n) = emit_term(sheet, b, left, code, second);
     let jump = put(code, test, Instr::Convert(Unary::Test));
@@ -72,8 +72,8 @@ fn emit_or(
     p: usize,
 ) -> (usize, usize)
     requires short { length code.old ≤ 8192 }
-    requires room { 2 * (p + term_size (Term.either (term_at left sheet.rows.now a) (term_at left sheet.rows.now b))) ≤ length code.old }
-    ensures { TermEmitted (names_at sheet.entry) (Term.either (term_at left sheet.entry.rows.now a) (term_at left sheet.entry.rows.now b)) p code.old code.new result }
+    requires room { 2 * (p + term_size (Term.either (term_at left sheet.lines.rows.now a) (term_at left sheet.lines.rows.now b))) ≤ length code.old }
+    ensures { TermEmitted (names_at sheet.entry) (Term.either (term_at left sheet.entry.lines.rows.now a) (term_at left sheet.entry.lines.rows.now b)) p code.old code.new result }
 {
     let (unless, m) = emit_term(sheet, a, left, code, p);
     let otherwise = unless + 3;
@@ -82,7 +82,7 @@ fn emit_or(
     let second = put(
         code,
         jump,
-        Instr::Jump(otherwise + term_size(sheet.rows, b, left) + 1),
+        Instr::Jump(otherwise + term_size(sheet.lines.rows, b, left) + 1),
     );
     let (test, n) = emit_term(sheet, b, left, code, second);
     let next = put(code, test, Instr::Convert(Unary::Test));
@@ -100,12 +100,16 @@ fn emit_view(
     p: usize,
 ) -> (usize, usize)
     requires short { length code.old ≤ 8192 }
-    requires room { 2 * (p + term_size (term_of sheet.rows.now at (term_at left sheet.rows.now) view)) ≤ length code.old }
-    ensures { TermEmitted (names_at sheet.entry) (term_of sheet.entry.rows.now at (term_at left sheet.entry.rows.now) view) p code.old code.new result }
+    requires room { 2 * (p + term_size (term_of sheet.lines.rows.now at (term_at left sheet.lines.rows.now) view)) ≤ length code.old }
+    ensures { TermEmitted (names_at sheet.entry) (term_of sheet.entry.lines.rows.now at (term_at left sheet.entry.lines.rows.now) view) p code.old code.new result }
 {
     match view {
         TermView::Number => (
-            put(code, p, Instr::Push(Source::Lit(number_at(sheet.rows, at)))),
+            put(
+                code,
+                p,
+                Instr::Push(Source::Lit(number_at(sheet.lines.rows, at))),
+            ),
             1,
         ),
         TermView::Name => (put(code, p, Instr::Push(source_at(sheet, at))), 1),
@@ -135,12 +139,12 @@ pub(crate) fn emit_term(
     p: usize,
 ) -> (usize, usize)
     requires short { length code.old ≤ 8192 }
-    requires room { 2 * (p + term_size (term_at left sheet.rows.now at)) ≤ length code.old }
-    ensures { TermEmitted (names_at sheet.entry) (term_at left sheet.entry.rows.now at) p code.old code.new result }
+    requires room { 2 * (p + term_size (term_at left sheet.lines.rows.now at)) ≤ length code.old }
+    ensures { TermEmitted (names_at sheet.entry) (term_at left sheet.entry.lines.rows.now at) p code.old code.new result }
 {
     if left == 0 {
         return (put(code, p, Instr::Push(Source::Lit(0))), 1);
     }
-    let view = term_view(sheet.rows, at);
+    let view = term_view(sheet.lines.rows, at);
     emit_view(sheet, at, view, left - 1, code, p)
 }

@@ -9,8 +9,9 @@ ghost use Rattle.language.specs.declared.names.Thing.TheVariants.{Constant};
 ghost use Rattle.language.specs.declared.names.Target.TheVariants.{Cell as CellTarget};
 ghost use Rattle.language.specs.declared.house.Opener.TheVariants.{State};
 ghost use Rattle.language.specs.Pushes.{thing_source, target_instr};
-ghost use Rattle.translator.specs.Writing.{names_at, source_operand, operand};
+ghost use Rattle.translator.specs.Writing.{names_at, states_on, source_operand, operand};
 
+use crate::group::StateLines;
 use crate::sheet::Sheet;
 use flat::instr::{Instr, Source};
 use language::house::Opener;
@@ -36,45 +37,57 @@ pub(crate) fn count_at(rows: &[Row], at: usize) -> usize
 
 // What the name at a row pushes.
 pub(crate) fn source_at(sheet: Sheet, at: usize) -> Source
-    ensures is { result ≡ thing_source (otherwise (Constant (pos 0)) (thing (names_at sheet.entry) (word_at sheet.entry.rows.now at))) }
-    ensures below { source_operand result ≤ sheet.entry.lines }
+    ensures is { result ≡ thing_source (otherwise (Constant (pos 0)) (thing (names_at sheet.entry) (word_at sheet.entry.lines.rows.now at))) }
+    ensures below { source_operand result ≤ sheet.entry.lines.count }
 {
-    thing_named(sheet.rows, sheet.lines, word_at(sheet.rows, at)).map_or(
-        Source::Lit(0),
-        Source::from,
+    thing_named(
+        sheet.lines.rows,
+        sheet.lines.count,
+        word_at(sheet.lines.rows, at),
     )
+    .map_or(Source::Lit(0), Source::from)
 }
 
 // The instruction that puts a value under the name at a row.
 pub(crate) fn target_at(sheet: Sheet, at: usize) -> Instr
-    ensures is { result ≡ target_instr (otherwise (CellTarget 0) (target (names_at sheet.entry) (word_at sheet.entry.rows.now at))) }
-    ensures below { operand result ≤ sheet.entry.lines }
+    ensures is { result ≡ target_instr (otherwise (CellTarget 0) (target (names_at sheet.entry) (word_at sheet.entry.lines.rows.now at))) }
+    ensures below { operand result ≤ sheet.entry.lines.count }
 {
-    target_named(sheet.rows, sheet.lines, word_at(sheet.rows, at)).map_or(
-        Instr::Keep(0),
-        Instr::from,
+    target_named(
+        sheet.lines.rows,
+        sheet.lines.count,
+        word_at(sheet.lines.rows, at),
     )
+    .map_or(Instr::Keep(0), Instr::from)
 }
 
 // The number of the process whose name stands at a row.
 pub(crate) fn process_at(sheet: Sheet, at: usize) -> usize
-    ensures is { result ≡ process (names_at sheet.entry) (word_at sheet.entry.rows.now at) }
-    ensures below { result ≤ sheet.entry.lines }
+    ensures is { result ≡ process (names_at sheet.entry) (word_at sheet.entry.lines.rows.now at) }
+    ensures below { result ≤ sheet.entry.lines.count }
 {
     find_name(
-        sheet.rows,
+        sheet.lines.rows,
         0,
-        sheet.lines,
+        sheet.lines.count,
         Opener::Proc,
-        word_at(sheet.rows, at),
+        word_at(sheet.lines.rows, at),
     )
     .unwrap_or(0)
 }
 
-// The number, among the states of lines from a row on, of the one whose name stands at a row.
-pub(crate) fn state_at(rows: &[Row], first: usize, states: usize, at: usize) -> usize
-    ensures is { result ≡ otherwise 0 (found (word_at rows.now at) (declared State (lines_at rows.now first states))) }
-    ensures below { result ≤ states }
+// The number, among the states of a process, of the one whose name stands at a row.
+pub(crate) fn state_at(sheet: Sheet, states: StateLines, at: usize) -> usize
+    ensures is { result ≡ otherwise 0 (found (word_at sheet.entry.lines.rows.now at) (declared State (states_on sheet.entry states))) }
+    ensures below { result ≤ states.count }
 {
-    find_name(rows, first, states, Opener::State, word_at(rows, at)).unwrap_or(0)
+    let rows = sheet.lines.rows;
+    find_name(
+        rows,
+        states.first,
+        states.count,
+        Opener::State,
+        word_at(rows, at),
+    )
+    .unwrap_or(0)
 }

@@ -1,12 +1,11 @@
 // The sheet on which a text's lines stand.
 ghost use Rattle.std.specs.Prelude.{◌≤◌};
 
-use text::row::Row;
+use text::items::Items;
 
-// The rows of a sheet, and how many lines of a text they hold: no more than a text has bytes (`few`).
+// The lines of a text on a sheet: no more than a text has bytes (`few`).
 #[derive(Clone, Copy)]
 pub(crate) struct Sheet<'s, 'a> {
-    pub(crate) rows: &'s [Row<'a>],
-    pub(crate) lines: usize,
-    ghost few: { lines ≤ 32768 },
+    pub(crate) lines: Items<'s, 'a>,
+    ghost few: { lines.count ≤ 32768 },
 }

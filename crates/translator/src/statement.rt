@@ -15,20 +15,15 @@ use language::house::Opener;
 use language::line::is_line;
 use language::view::{ActView, Change, act_view, count_at as items_at, third_row};
 use measure::size::act_size;
-use text::row::next_row;
+use text::items::Items;
 
 // Puts a statement that sets a state or a clock.
 fn emit_change(site: Site, change: Change, code: &mut [i32], p: usize) -> (usize, usize)
     requires room { 2 * (p + 1) ≤ length code.old }
-    ensures { ActEmitted (names_at site.entry.sheet) (spot_at site.entry) (change_of site.entry.sheet.rows.now change) p code.old code.new result }
+    ensures { ActEmitted (names_at site.entry.sheet) (spot_at site.entry) (change_of site.entry.sheet.lines.rows.now change) p code.old code.new result }
 {
     let control = match change {
-        Change::Go(name) => Control::State(state_at(
-            site.sheet.rows,
-            site.first,
-            site.states,
-            name,
-        )),
+        Change::Go(name) => Control::State(state_at(site.sheet, site.states, name)),
         Change::Next => Control::State(site.here + 1),
         Change::Start(name) => Control::Start(process_at(site.sheet, name)),
         Change::Restart => Control::Start(site.own),
@@ -50,13 +45,13 @@ fn emit_guarded(
     unless: usize,
 ) -> (usize, usize)
     requires short { length code.old ≤ 8192 }
-    requires room { 2 * (unless + 1 + act_size (act_at left site.sheet.rows.now at)) ≤ length code.old }
-    ensures { ActEmitted (names_at site.entry.sheet) (spot_at site.entry) (act_at left site.entry.sheet.rows.now at) (unless + 1) (put_at unless (UnlessInstr (unless + 1 + act_size (act_at left site.entry.sheet.rows.now at))) code.old) code.new result }
+    requires room { 2 * (unless + 1 + act_size (act_at left site.sheet.lines.rows.now at)) ≤ length code.old }
+    ensures { ActEmitted (names_at site.entry.sheet) (spot_at site.entry) (act_at left site.entry.sheet.lines.rows.now at) (unless + 1) (put_at unless (UnlessInstr (unless + 1 + act_size (act_at left site.entry.sheet.lines.rows.now at))) code.old) code.new result }
 {
     let first = put(
         code,
         unless,
-        Instr::Unless(unless + 1 + act_size(site.sheet.rows, at, left)),
+        Instr::Unless(unless + 1 + act_size(site.sheet.lines.rows, at, left)),
     );
     emit_act(site, at, left, code, first)
 }
@@ -65,24 +60,27 @@ fn emit_guarded(
 #[cycle(statements)]
 fn emit_acts(
     site: Site,
-    from: usize,
+    first: usize,
     count: usize,
     left: usize,
     code: &mut [i32],
     p: usize,
 ) -> (usize, usize)
     requires short { length code.old ≤ 8192 }
-    requires room { 2 * (p + act_size (acts_of (act_at left site.sheet.rows.now) site.sheet.rows.now from count)) ≤ length code.old }
-    ensures { ActEmitted (names_at site.entry.sheet) (spot_at site.entry) (acts_of (act_at left site.entry.sheet.rows.now) site.entry.sheet.rows.now from count) p code.old code.new result }
+    requires room { 2 * (p + act_size (acts_of (act_at left site.sheet.lines.rows.now) site.sheet.lines.rows.now first count)) ≤ length code.old }
+    ensures { ActEmitted (names_at site.entry.sheet) (spot_at site.entry) (acts_of (act_at left site.entry.sheet.lines.rows.now) site.entry.sheet.lines.rows.now first count) p code.old code.new result }
 {
-    let mut at = from;
+    let statements = Items {
+        rows: site.sheet.lines.rows,
+        first,
+        count,
+    };
     let mut next = p;
     let mut most = 0;
-    for _i in 0..count {
+    for at in statements.iter() {
         let (behind, m) = emit_act(site, at, left, code, next);
         next = behind;
         most += m;
-        at = next_row(site.sheet.rows, at);
     }
     (next, most)
 }
@@ -91,8 +89,8 @@ fn emit_acts(
 #[cycle(statements)]
 fn emit_parts(site: Site, view: ActView, left: usize, code: &mut [i32], p: usize) -> (usize, usize)
     requires short { length code.old ≤ 8192 }
-    requires room { 2 * (p + act_size (act_of site.sheet.rows.now (term_at left site.sheet.rows.now) (act_at left site.sheet.rows.now) view)) ≤ length code.old }
-    ensures { ActEmitted (names_at site.entry.sheet) (spot_at site.entry) (act_of site.entry.sheet.rows.now (term_at left site.entry.sheet.rows.now) (act_at left site.entry.sheet.rows.now) view) p code.old code.new result }
+    requires room { 2 * (p + act_size (act_of site.sheet.lines.rows.now (term_at left site.sheet.lines.rows.now) (act_at left site.sheet.lines.rows.now) view)) ≤ length code.old }
+    ensures { ActEmitted (names_at site.entry.sheet) (spot_at site.entry) (act_of site.entry.sheet.lines.rows.now (term_at left site.entry.sheet.lines.rows.now) (act_at left site.entry.sheet.lines.rows.now) view) p code.old code.new result }
 {
     match view {
         ActView::Put(name, value) => {
@@ -106,13 +104,13 @@ fn emit_parts(site: Site, view: ActView, left: usize, code: &mut [i32], p: usize
         }
         ActView::Choose(condition, at, other) => {
             let (unless, m) = emit_term(site.sheet, condition, left, code, p);
-            let second = unless + 1 + act_size(site.sheet.rows, at, left) + 1;
+            let second = unless + 1 + act_size(site.sheet.lines.rows, at, left) + 1;
             let first = put(code, unless, Instr::Unless(second));
             let (jump, n) = emit_act(site, at, left, code, first);
             let behind = put(
                 code,
                 jump,
-                Instr::Jump(second + act_size(site.sheet.rows, other, left)),
+                Instr::Jump(second + act_size(site.sheet.lines.rows, other, left)),
             );
             let (next, k) = emit_act(site, other, left, code, behind);
             (next, m + 1 + (n + 1).max(k))
@@ -122,7 +120,7 @@ fn emit_parts(site: Site, view: ActView, left: usize, code: &mut [i32], p: usize
             let unless = put(
                 code,
                 p,
-                Instr::Push(Source::Late(count_at(site.sheet.rows, time))),
+                Instr::Push(Source::Late(count_at(site.sheet.lines.rows, time))),
             );
             let (next, n) = emit_guarded(site, at, left, code, unless);
             (next, 2 + n)
@@ -136,13 +134,13 @@ fn emit_parts(site: Site, view: ActView, left: usize, code: &mut [i32], p: usize
 #[cycle(statements)]
 fn emit_act(site: Site, at: usize, left: usize, code: &mut [i32], p: usize) -> (usize, usize)
     requires short { length code.old ≤ 8192 }
-    requires room { 2 * (p + act_size (act_at left site.sheet.rows.now at)) ≤ length code.old }
-    ensures { ActEmitted (names_at site.entry.sheet) (spot_at site.entry) (act_at left site.entry.sheet.rows.now at) p code.old code.new result }
+    requires room { 2 * (p + act_size (act_at left site.sheet.lines.rows.now at)) ≤ length code.old }
+    ensures { ActEmitted (names_at site.entry.sheet) (spot_at site.entry) (act_at left site.entry.sheet.lines.rows.now at) p code.old code.new result }
 {
     if left == 0 {
         return (p, 0);
     }
-    let view = act_view(site.sheet.rows, at);
+    let view = act_view(site.sheet.lines.rows, at);
     emit_parts(site, view, left - 1, code, p)
 }
 
@@ -156,13 +154,13 @@ fn deepest() -> usize
 // Puts the body of the line at a row; what is no state has none.
 pub(crate) fn emit_body(site: Site, at: usize, code: &mut [i32], p: usize) -> (usize, usize)
     requires short { length code.old ≤ 8192 }
-    requires room { 2 * (p + act_size (body (line_at site.sheet.rows.now at))) ≤ length code.old }
-    ensures { ActEmitted (names_at site.entry.sheet) (spot_at site.entry) (body (line_at site.entry.sheet.rows.now at)) p code.old code.new result }
+    requires room { 2 * (p + act_size (body (line_at site.sheet.lines.rows.now at))) ≤ length code.old }
+    ensures { ActEmitted (names_at site.entry.sheet) (spot_at site.entry) (body (line_at site.entry.sheet.lines.rows.now at)) p code.old code.new result }
 {
-    if !is_line(site.sheet.rows, at, Opener::State) {
+    if !is_line(site.sheet.lines.rows, at, Opener::State) {
         return (p, 0);
     }
-    let from = third_row(site.sheet.rows, at);
-    let count = items_at(site.sheet.rows, at).saturating_sub(2);
+    let from = third_row(site.sheet.lines.rows, at);
+    let count = items_at(site.sheet.lines.rows, at).saturating_sub(2);
     emit_acts(site, from, count, deepest(), code, p)
 }

@@ -1,22 +1,23 @@
 // The call that translates a text.
 ghost use Rattle.std.specs.Prelude.{◌≡◌, length};
-ghost use Rattle.text.specs.Sheet.{forms_at};
+ghost use Rattle.text.specs.Items.{forms_of};
 ghost use Rattle.language.specs.Translation.{answer_for, translation};
 ghost use Rattle.translator.specs.Outcome.{told, outcome};
-ghost use Rattle.translator.specs.Writing.{lines_of};
+ghost use Rattle.language.specs.OnSheet.{lines_of};
 
 use crate::emit::{count_words, write_code};
 use crate::sheet::Sheet;
 use checks::check::check;
 use checks::refusal::Refusal;
+use text::items::Items;
 use text::read::read;
 use text::row::Row;
 
 // Checks the lines on a sheet and writes their code.
 fn write_checked(sheet: Sheet, code: &mut [i32]) -> Result<(usize, usize), Refusal>
-    ensures { (record { told = told result; code = code.new }) ≡ outcome (answer_for (length code.old) (forms_at sheet.entry.rows.now 0 sheet.entry.lines) (lines_of sheet.entry)) code.old }
+    ensures { (record { told = told result; code = code.new }) ≡ outcome (answer_for (length code.old) (forms_of sheet.entry.lines) (lines_of sheet.entry.lines)) code.old }
 {
-    check(sheet.rows, sheet.lines)?;
+    check(sheet.lines.rows, sheet.lines.count)?;
     if code.len() < count_words(sheet) {
         return Err(Refusal::ShortCode);
     }
@@ -33,9 +34,11 @@ pub fn translate<'a>(
     ensures { (record { told = told result; code = code.new }) ≡ outcome (translation text.now (length sheet.old) (length code.old)) code.old }
 {
     let page = read(text, sheet)?;
-    let read = Sheet {
+    let lines = Items {
         rows: sheet,
-        lines: page.lines,
+        first: 0,
+        count: page.lines,
     };
-    write_checked(read, code)
+    let sheet = Sheet { lines };
+    write_checked(sheet, code)
 }

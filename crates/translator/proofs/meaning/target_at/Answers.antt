@@ -10,7 +10,7 @@ use Rattle.translator.proofs.meaning.target_at.Goals as goal
 
 pub returns : goal.returns
 returns c =
-    let rows = c.args.sheet.rows.now in
+    let rows = c.args.sheet.lines.rows.now in
     let w = word_at rows c.args.at in
     let e : c.map_or.result ≡ target_instr (otherwise (CellTarget 0) (target (names_at c.args.sheet) w)) = search rules in
     record { is = e; below = rw e (instr_below rows c.args.sheet.lines w) }
