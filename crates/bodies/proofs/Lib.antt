@@ -1,5 +1,4 @@
 pub mod Stacks
 pub mod Bodies
 pub mod Sweeps
-pub mod Advances
 pub mod Runnables

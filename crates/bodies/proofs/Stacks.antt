@@ -3,7 +3,7 @@ use Rattle.std.proofs.Common.{◌≡◌, ℕ, zero, suc, ◌+◌, ◌-◌, ◌<�
 use lib.Seq.{take-set-le, take-set-lt}
 use Rattle.std.proofs.lemmas.Bool.{lt-ltb, le-ltb}
 use Rattle.kinds.specs.Ops.{Ops}
-use Rattle.bodies.specs.declared.step.Running.{Running}
+use Rattle.bodies.specs.declared.running.Running.{Running}
 use Rattle.bodies.specs.Machine.{skip, no_room, push, with_stack, with_cells}
 use Rattle.bodies.specs.Memory.{stack, meaning}
 
@@ -41,8 +41,8 @@ module _ {V : Type 0} (k : Ops V) (base : ℕ) where
   pub meaning_push :
       (w : List V) (t : Running) (v : V)
       → base + 16 ≤ length w
-      → t.depth < 16
-      → skip 0 (meaning k base (set w (base + t.depth) v) (record { depth = t.depth + 1; board = t.board; puts = t.puts })) ≡ push v (meaning k base w t)
+      → (h : t.depth < 16)
+      → skip 0 (meaning k base (set w (base + t.depth) v) (record { depth = t.depth + 1; board = t.board; puts = t.puts; shallow = omega arith })) ≡ push v (meaning k base w t)
   meaning_push w t v room h =
       let full : ltb (length (stack k.zero w base t.depth)) 16 ≡ true = rw stack_length (lt-ltb t.depth 16 h) in
       let s : stack k.zero (set w (base + t.depth) v) base (t.depth + 1) ≡ v ∷ stack k.zero w base t.depth = stack_push k.zero w base t.depth v (omega arith) in
@@ -61,7 +61,7 @@ module _ {V : Type 0} (k : Ops V) (base : ℕ) where
       (w : List V) (t : Running) (v : V)
       → 0 < t.depth
       → v ≡ get_or w (base + (t.depth - 1)) k.zero
-      → with_stack (v ∷ stack k.zero w base (t.depth - 1)) (meaning k base w (record { depth = t.depth - 1; board = t.board; puts = t.puts })) ≡ meaning k base w t
+      → with_stack (v ∷ stack k.zero w base (t.depth - 1)) (meaning k base w (record { depth = t.depth - 1; board = t.board; puts = t.puts; shallow = omega (arith, t.shallow) })) ≡ meaning k base w t
   meaning_pop w t v h e =
       let s : v ∷ stack k.zero w base (t.depth - 1) ≡ stack k.zero w base t.depth = ap (λ (x : V). x ∷ stack k.zero w base (t.depth - 1)) e ∙ stack_pop k.zero w base t.depth h in
       ap (λ (xs : List V). with_stack xs (meaning k base w t)) s

@@ -1,15 +1,22 @@
 -- Laws of a process's turn and of all processes in order.
-use Rattle.std.proofs.Common.{◌≡◌, ℕ, suc, ◌+◌, ◌-◌, ◌*◌, ◌<◌, ◌≤◌, true, ltb, List, [], length, ℤ, Err, sym, refl, ap, ◌∙◌, arith, length-drop}
+use Rattle.std.proofs.Common.{◌≡◌, ℕ, suc, ◌+◌, ◌-◌, ◌*◌, ◌<◌, ◌≤◌, true, ltb, List, [], length, ℤ, Ok, Err, Result, sym, refl, ap, ◌∙◌, subst, arith, length-drop}
 use Rattle.std.proofs.lemmas.Bool.{lt-ltb}
 use Rattle.kinds.specs.Ops.{Ops}
 use Rattle.flat.specs.Words.{word, states, entry, body}
 use Rattle.refusals.specs.declared.Fault.{Fault}
 use Rattle.refusals.specs.declared.Fault.TheVariants.{Divisor, Stack}
+use Rattle.refusals.specs.declared.GivenUp.{GivenUp}
 use Rattle.board.specs.Rows.{state}
 use Rattle.bodies.specs.Machine.{Machine, with_stack}
 use Rattle.bodies.specs.Body.{Ran, done, run}
 use Rattle.bodies.specs.Sweep.{visit, swept, no_divisor, no_stack, onward, sweep}
 use Rattle.bodies.specs.Memory.{ran, given_up, Sound, Runnable}
+
+-- an entry read by its place
+pub entry_read : (code : List ℤ) (q s e place : ℕ) → place ≡ 7 + 17 * q → e ≡ word code (place + 1 + s) → e ≡ entry code q s
+entry_read code q s e place h is =
+    let p : place + 1 + s ≡ 8 + 17 * q + s = omega arith in
+    is ∙ ap (word code) p
 
 -- what the run of a body asks
 pub body_sound :
@@ -41,6 +48,15 @@ module _ {V : Type 0} (k : Ops V) (seen code : List ℤ) (q : ℕ) (m : Machine 
       let yes : ltb (state m.board q) (states code q) ≡ true = rw (← is) (lt-ltb s (states code q) l) in
       rw (yes, ← is, ← at, ← w) h
 
+-- The answer of process q, in its state s, with its place where it is given up.
+abbrev pub placed : ℕ → ℕ → Result ℕ Fault → Result ℕ GivenUp
+placed q s (Ok n) = Ok n
+placed q s (Err f) = Err (record { fault = f; place = record { process = q; state = s } })
+
+pub placed_ok : (q s n : ℕ) (r : Result ℕ Fault) → placed q s r ≡ Ok n → r ≡ Ok n
+placed_ok q s n (Ok j) e = cc
+placed_ok q s n (Err f) e = cc
+
 module _ {V : Type 0} (k : Ops V) (seen code : List ℤ) where
   -- the turn of process q, of n
   pub sweep_turn :
@@ -65,7 +81,7 @@ module _ {V : Type 0} (k : Ops V) (seen code : List ℤ) where
       ap (λ (r : Ran V). onward r q (state m.board q) (λ i m₂. sweep k seen code (n - (q + 1)) (q + 1) (steps + i) m₂)) e
       ∙ sym (sweep_turn n q steps m h)
 
-  pub sweep_stop :
+  sweep_stop :
       (n q steps s : ℕ) (f : Fault) (m m₁ : Machine V)
       → q < n
       → s ≡ state m.board q
@@ -79,3 +95,17 @@ module _ {V : Type 0} (k : Ops V) (seen code : List ℤ) where
       refused : (f : Fault) → given_up f q s ≡ onward (ran (Err f) m₁) q (state m.board q) (λ i m₂. sweep k seen code (n - (q + 1)) (q + 1) (steps + i) m₂)
       refused Divisor = ap (λ (x : ℕ). no_divisor q x) is
       refused Stack = ap (λ (x : ℕ). no_stack q x) is
+
+  -- the same by the answer that tells the place too
+  pub sweep_told :
+      (n q steps s : ℕ) (r : Result ℕ Fault) (e : GivenUp) (m m₁ : Machine V)
+      → q < n
+      → s ≡ state m.board q
+      → placed q s r ≡ Err e
+      → ran r m₁ ≡ visit k seen code q m
+      → given_up e.fault e.place.process e.place.state ≡ sweep k seen code (n - q) q steps m
+  sweep_told n q steps s (Ok j) e m m₁ h is a t = cc
+  sweep_told n q steps s (Err f) e m m₁ h is a t =
+      let at : GivenUp = record { fault = f; place = record { process = q; state = s } } in
+      let same : at ≡ e = cc in
+      subst (λ (x : GivenUp). given_up x.fault x.place.process x.place.state ≡ sweep k seen code (n - q) q steps m) same (sweep_stop n q steps s f m m₁ h is t)

@@ -1,5 +1,5 @@
 -- How the code's memory stands for the machine of the definitions: cited by contracts of this crate and of the private step of a scan in `machine`, not by the calls of a run.
-use Rattle.std.specs.Prelude.{◌≡◌, ℕ, zero, suc, ◌+◌, ◌-◌, ◌*◌, ◌<◌, ◌≤◌, List, [], ◌∷◌, length, take, ℤ, Ok, Err, Result, slice_index_or}
+use Rattle.std.specs.Prelude.{◌≡◌, ℕ, zero, suc, ◌+◌, ◌-◌, ◌*◌, ◌<◌, ◌≤◌, List, [], ◌∷◌, length, take, ℤ, None, Some, Option, Ok, Err, Result, slice_index_or}
 use Rattle.kinds.specs.Ops.{Ops}
 use Rattle.flat.specs.Words.{word, states, entry, body}
 use Rattle.flat.specs.Instructions.{decoded}
@@ -11,9 +11,7 @@ use Rattle.flat.specs.declared.instr.Instr.{Instr}
 use Rattle.flat.specs.declared.instr.Instr.TheVariants.{End, Push, Convert, Combine, Jump, Unless, Keep, Drive, Set}
 use Rattle.refusals.specs.declared.Fault.{Fault}
 use Rattle.refusals.specs.declared.Fault.TheVariants.{Divisor, Stack}
-use Rattle.bodies.specs.declared.step.Flow.{Flow}
-use Rattle.bodies.specs.declared.step.Flow.TheVariants.{Over, Skip}
-use Rattle.bodies.specs.declared.step.Running.{Running}
+use Rattle.bodies.specs.declared.running.Running.{Running}
 use Rattle.refusals.specs.declared.GivenUp.{GivenUp}
 use Rattle.bodies.specs.Machine.{Machine, Outcome, over, skip, no_quotient, no_room, with_stack}
 use Rattle.bodies.specs.Body.{Ran, done, zero_divisor, stack_fault}
@@ -29,9 +27,9 @@ abbrev pub meaning : {V : Type 0} → Ops V → ℕ → List V → Running → M
 meaning k base work t = record { cells = take base work; stack = stack k.zero work base t.depth; board = t.board; puts = t.puts }
 
 -- What an answer of a step stands for, with the machine that is left.
-abbrev pub outcome : {V : Type 0} → Result Flow Fault → Machine V → Outcome V
-outcome (Ok Over) m = over m
-outcome (Ok (Skip n)) m = skip n m
+abbrev pub outcome : {V : Type 0} → Result (Option ℕ) Fault → Machine V → Outcome V
+outcome (Ok None) m = over m
+outcome (Ok (Some n)) m = skip n m
 outcome (Err Divisor) m = no_quotient
 outcome (Err Stack) m = no_room
 

@@ -4,22 +4,12 @@ ghost use Rattle.flat.specs.Words.{word};
 ghost use Rattle.bodies.specs.Advance.{advance as advanced, advances};
 ghost use Rattle.bodies.specs.Memory.{Runnable};
 
-use crate::step::Running;
+use crate::running::Running;
 use crate::sweep::sweep;
 use board::Board;
-use flat::words::count_at;
+use flat::words::{CELLS, PROCESSES, count_at};
 use kinds::Kind;
 use refusals::GivenUp;
-
-// Copies the first `n` values of `from` over those of `to`.
-fn copy_front<K: Kind>(to: &mut [K], from: &[K], n: usize)
-    requires { (n ≤ length to.old) × (n ≤ length from.now) }
-    ensures { to.new ≡ take n from.now ++ drop n to.old }
-{
-    for i in 0..n {
-        to[i] = from[i];
-    }
-}
 
 // Runs all processes on a copy of cells and board, and takes the copy over if none is given up: the steps and the levels put.
 pub fn advance<K: Kind>(
@@ -34,22 +24,18 @@ pub fn advance<K: Kind>(
     requires room { word code.now 2 + 16 ≤ length work.old }
     ensures result { advances result cells.new board.new ≡ advanced K.ops seen.now code.now cells.old board.old }
 {
-    let n = count_at(code, 2);
-    copy_front(work, cells, n);
+    let n = count_at(code, CELLS);
+    work[..n].copy_from_slice(&cells[..n]);
     let mut t = Running {
         depth: 0,
         board: *board,
         puts: [None; 32],
     };
-    match sweep(code, work, n, &mut t, seen) {
-        Err(stop) => Err(stop),
-        Ok(steps) => {
-            copy_front(cells, work, n);
-            let puts = t.puts;
-            t.board.settle(&puts);
-            t.board.tick(count_at(code, 5));
-            *board = t.board;
-            Ok((steps, puts))
-        }
-    }
+    let steps = sweep(code, work, n, &mut t, seen)?;
+    cells[..n].copy_from_slice(&work[..n]);
+    let puts = t.puts;
+    t.board.settle(&puts);
+    t.board.tick(count_at(code, PROCESSES));
+    *board = t.board;
+    Ok((steps, puts))
 }

@@ -3,7 +3,8 @@ ghost use Rattle.std.specs.Prelude.{◌≡◌, ℕ, ◌+◌, ◌*◌, ◌<◌, �
 ghost use Rattle.bodies.specs.Body.{run as runs};
 ghost use Rattle.bodies.specs.Memory.{meaning, ran, Sound};
 
-use crate::step::{Flow, Running, step};
+use crate::running::Running;
+use crate::step::step;
 use flat::instr::decode;
 use kinds::Kind;
 use refusals::Fault;
@@ -19,12 +20,10 @@ pub(crate) fn run<K: Kind>(
     p: usize,
 ) -> Result<u32, Fault>
     requires room { base + 16 ≤ length work.old }
-    requires shallow { t.old.depth ≤ 16 }
     requires process { p < 32 }
     requires size { first * 2 + length words.now ≤ 8192 }
     requires sound { Sound base first words.now }
     ensures result { ran result (meaning K.ops base work.new t.new) ≡ runs K.ops seen.now p first words.now 0 0 (meaning K.ops base work.old t.old) }
-    ensures shallow { t.new.depth ≤ 16 }
     ensures few { IfOk result (λ n. n ≤ 4096) }
 {
     let mut left = words;
@@ -32,14 +31,11 @@ pub(crate) fn run<K: Kind>(
     let mut steps = 0;
     while let [op, operand, rest @ ..] = left {
         steps += 1;
-        let flow = step(work, base, t, seen, p, i, decode(*op, *operand))?;
-        match flow {
-            Flow::Over => return Ok(steps),
-            Flow::Skip(n) => {
-                left = &rest[2 * n..];
-                i += 1 + n;
-            }
-        }
+        let Some(n) = step(work, base, t, seen, p, i, decode(*op, *operand))? else {
+            return Ok(steps);
+        };
+        left = &rest[2 * n..];
+        i += 1 + n;
     }
     Ok(steps)
 }

@@ -3,5 +3,6 @@
 
 pub mod advance;
 mod body;
+mod running;
 mod step;
 mod sweep;

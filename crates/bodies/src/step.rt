@@ -3,46 +3,33 @@ ghost use Rattle.std.specs.Prelude.{◌≡◌, ℕ, ◌+◌, ◌<◌, ◌≤◌,
 ghost use Rattle.bodies.specs.Machine.{push as pushed, value as given, converted, combined, controlled, step as stepped, passive};
 ghost use Rattle.bodies.specs.Memory.{meaning, outcome, restored, for_stack, InRange, SourceInRange, ControlInRange};
 
+use crate::running::Running;
 use board::Board;
 use flat::instr::{Binary, Control, Instr, Source, Unary};
 use kinds::{Kind, NoQuotient, truth_value};
 use refusals::Fault;
 
-// How a body goes on after an instruction: it is over, or goes on past so many instructions.
-#[derive(Clone, Copy)]
-pub(crate) enum Flow {
-    Over,
-    Skip(usize),
-}
+// The most values on the stack.
+const MAX_DEPTH: usize = 16;
 
-// What a scan changes as it runs, besides its working memory: the depth of the stack, the board, the levels put.
-#[derive(Clone, Copy)]
-pub(crate) struct Running {
-    pub(crate) depth: usize,
-    pub(crate) board: Board,
-    pub(crate) puts: [Option<i32>; 32],
-}
-
-// Pushes a value where there is room. The stack stands in `work` from `base` on.
-fn push<K: Kind>(work: &mut [K], base: usize, t: &mut Running, v: K) -> Result<Flow, Fault>
-    requires { (base + 16 ≤ length work.old) × (t.old.depth ≤ 16) }
+// Pushes a value where there is room, and goes on. The stack stands in `work` from `base` on.
+fn push<K: Kind>(work: &mut [K], base: usize, t: &mut Running, v: K) -> Result<Option<usize>, Fault>
+    requires { base + 16 ≤ length work.old }
     ensures t_after { outcome result (meaning K.ops base work.new t.new) ≡ pushed v (meaning K.ops base work.old t.old) }
-    ensures depth_bound { t.new.depth ≤ 16 }
 {
-    if t.depth >= 16 {
+    if t.depth >= MAX_DEPTH {
         return Err(Fault::Stack);
     }
     work[base + t.depth] = v;
     t.depth += 1;
-    Ok(Flow::Skip(0))
+    Ok(Some(0))
 }
 
 // Takes the top of the stack, where there is one.
 fn pop<K: Kind>(work: &[K], base: usize, t: &mut Running) -> Result<K, Fault>
-    requires { (base + 16 ≤ length work.now) × (t.old.depth ≤ 16) }
+    requires { base + 16 ≤ length work.now }
     ensures t_after { restored result (meaning K.ops base work.now t.new) ≡ meaning K.ops base work.now t.old }
     ensures for_stack { for_stack result }
-    ensures depth_bound { t.new.depth ≤ 16 }
 {
     if t.depth == 0 {
         return Err(Fault::Stack);
@@ -55,7 +42,7 @@ fn pop<K: Kind>(work: &[K], base: usize, t: &mut Running) -> Result<K, Fault>
 fn is_passive(s: u8) -> bool
     ensures { result ≡ passive s }
 {
-    s == 254 || s == 255
+    matches!(s, 254 | 255)
 }
 
 // The value that an instruction of process `p` pushes.
@@ -77,6 +64,7 @@ fn value<K: Kind>(cells: &[K], board: &Board, seen: &[i32; 32], p: usize, s: Sou
     }
 }
 
+// A value by an operation on it.
 fn convert<K: Kind>(u: Unary, a: K) -> K
     ensures { result ≡ converted K.ops u a }
 {
@@ -86,6 +74,7 @@ fn convert<K: Kind>(u: Unary, a: K) -> K
     }
 }
 
+// Two values by an operation on them, the one pushed first in front.
 fn combine<K: Kind>(o: Binary, a: K, b: K) -> Result<K, NoQuotient>
     ensures { result ≡ combined K.ops o a b }
 {
@@ -99,6 +88,7 @@ fn combine<K: Kind>(o: Binary, a: K, b: K) -> Result<K, NoQuotient>
     }
 }
 
+// Changes a process row, by an instruction of process `p`.
 fn control(board: &mut Board, p: usize, c: Control)
     requires { (p < 32) × (ControlInRange c) }
     ensures { board.new ≡ controlled p c board.old }
@@ -112,7 +102,7 @@ fn control(board: &mut Board, p: usize, c: Control)
     }
 }
 
-// Runs instruction `i`, which is `instr`, of process `p`.
+// Runs instruction `i`, which is `instr`, of process `p`: past how many instructions the body goes on, or that it is over.
 pub(crate) fn step<K: Kind>(
     work: &mut [K],
     base: usize,
@@ -121,13 +111,12 @@ pub(crate) fn step<K: Kind>(
     p: usize,
     i: usize,
     instr: Instr,
-) -> Result<Flow, Fault>
-    requires { (base + 16 ≤ length work.old) × ((t.old.depth ≤ 16) × ((p < 32) × (InRange base i instr))) }
+) -> Result<Option<usize>, Fault>
+    requires { (base + 16 ≤ length work.old) × ((p < 32) × (InRange base i instr)) }
     ensures t_after { outcome result (meaning K.ops base work.new t.new) ≡ stepped K.ops seen.now p i instr (meaning K.ops base work.old t.old) }
-    ensures depth_bound { t.new.depth ≤ 16 }
 {
     match instr {
-        Instr::End => Ok(Flow::Over),
+        Instr::End => Ok(None),
         Instr::Push(s) => {
             let v = value(&work[0..base], &t.board, seen, p, s);
             push(work, base, t, v)
@@ -139,30 +128,27 @@ pub(crate) fn step<K: Kind>(
         Instr::Combine(o) => {
             let b = pop(work, base, t)?;
             let a = pop(work, base, t)?;
-            let Ok(v) = combine(o, a, b) else {
-                return Err(Fault::Divisor);
-            };
+            let v = combine(o, a, b).map_err(|_| Fault::Divisor)?;
             push(work, base, t, v)
         }
-        Instr::Jump(x) => Ok(Flow::Skip(x - (i + 1))),
+        Instr::Jump(x) => Ok(Some(x - (i + 1))),
         Instr::Unless(x) => {
             let a = pop(work, base, t)?;
             let skipped = if a.is_true() { 0 } else { x - (i + 1) };
-            Ok(Flow::Skip(skipped))
+            Ok(Some(skipped))
         }
         Instr::Keep(x) => {
-            let a = pop(work, base, t)?;
-            work[x] = a;
-            Ok(Flow::Skip(0))
+            work[x] = pop(work, base, t)?;
+            Ok(Some(0))
         }
         Instr::Drive(x) => {
             let a = pop(work, base, t)?;
             t.puts[x] = Some(a.write());
-            Ok(Flow::Skip(0))
+            Ok(Some(0))
         }
         Instr::Set(c) => {
             control(&mut t.board, p, c);
-            Ok(Flow::Skip(0))
+            Ok(Some(0))
         }
     }
 }

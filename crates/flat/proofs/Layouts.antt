@@ -1,6 +1,6 @@
 -- The tests of a code, put together, hold exactly of the codes of the layout.
-use Rattle.std.proofs.Common.{◌≡◌, ℕ, ◌+◌, ◌-◌, ◌*◌, ◌<◌, ◌≤◌, Bool, true, ◌&&◌, leb, List, length, get_or, ℤ, pos, negsuc, sym, refl, ap, ◌∙◌, inl, inr, arith, length-drop, get_or-drop}
-use Rattle.std.proofs.lemmas.Bool.{and_parts, cases_lt, ltb-true, leb-true, eqb-true, lt-ltb, le-ltb, le-leb, eq-eqb, false≢true}
+use Rattle.std.proofs.Common.{◌≡◌, ℕ, ◌+◌, ◌-◌, ◌*◌, ◌<◌, ◌≤◌, true, leb, List, length, get_or, ℤ, pos, negsuc, sym, refl, ap, ◌∙◌, inl, inr, arith, length-drop, get_or-drop}
+use Rattle.std.proofs.lemmas.Bool.{and_parts, and_from, cases_lt, ltb-true, leb-true, eqb-true, lt-ltb, le-ltb, le-leb, eq-eqb, false≢true}
 use Rattle.flat.specs.Words.{natural, at, word, head, states, states_word, entry_word, body, opcode, operand}
 use Rattle.flat.specs.Tests.{within, under, is_zero, every, timing_fits, memory_fits, program_fits, head_fits, entry_fits, process_fits, instructions_fit, ends, rest_fits, fits}
 use Rattle.flat.specs.Layout.{Within, Layout}
@@ -28,10 +28,6 @@ zero_of (negsuc n) e = absurd (false≢true e)
 
 of_zero : (w : ℤ) → w ≡ pos 0 → is_zero w ≡ true
 of_zero w e = rw e refl
-
--- both of two tests
-both_true : (a b : Bool) → a ≡ true → b ≡ true → a && b ≡ true
-both_true a b x y = rw x y
 
 -- An entry of a state, and one beyond the states.
 used_entry : (code : List ℤ) (q s : ℕ) → s < states code q → entry_fits code q s ≡ under (word code 6) (entry_word code q s)
@@ -74,11 +70,11 @@ module _ (code : List ℤ) where
       let lines = and_parts (within 0 32 (at code 3)) _ memory.1 in
       let program = and_parts (within 1 32 (at code 5)) _ front.2 in
       let size = front.3 in
-      let procs = and_parts (every (process_fits code) 0 (word code 5)) _ both.1 in
+      let procs = and_parts (every (process_fits code) (word code 5)) _ both.1 in
       let last = and_parts (instructions_fit (head code) 0 (body code 0)) (ends code) procs.1 in
-      let process : (q : ℕ) → q < word code 5 → process_fits code q ≡ true = λ q l. every_at (process_fits code) (word code 5) 0 q procs.0 (omega arith) (omega arith) in
+      let process : (q : ℕ) → q < word code 5 → process_fits code q ≡ true = λ q l. every_at (process_fits code) (word code 5) q procs.0 l in
       let few : (q : ℕ) → q < word code 5 → Within 1 16 (states_word code q) = λ q l. within_of 1 16 (states_word code q) (and_parts (within 1 16 (states_word code q)) _ (process q l)).0 in
-      let entry : (q s : ℕ) → q < word code 5 → s < 16 → entry_fits code q s ≡ true = λ q s l k. every_at (entry_fits code q) 16 0 s (and_parts (within 1 16 (states_word code q)) _ (process q l)).1 (omega arith) (omega arith) in
+      let entry : (q s : ℕ) → q < word code 5 → s < 16 → entry_fits code q s ≡ true = λ q s l k. every_at (entry_fits code q) 16 s (and_parts (within 1 16 (states_word code q)) _ (process q l)).1 k in
       record {
         kind = within_of 1 2 (at code 0) timing.0;
         tact = within_of 1 60000 (at code 1) timing.1;
@@ -111,17 +107,17 @@ module _ (code : List ℤ) where
   unfolding fits
   fits_of_layout y =
       let some : 1 ≤ word code 6 = count-at-least y.instructions in
-      both_true (head_fits code) (rest_fits code)
-      (both_true (timing_fits code) _
-      (both_true (within 1 2 (at code 0)) _ (of_within 1 2 (at code 0) y.kind) (of_within 1 60000 (at code 1) y.tact))
-      (both_true (memory_fits code) _
-      (both_true (within 0 64 (at code 2)) _ (of_within 0 64 (at code 2) y.cells) (both_true (within 0 32 (at code 3)) _ (of_within 0 32 (at code 3) y.inputs) (of_within 0 32 (at code 4) y.outputs)))
-      (both_true (program_fits code) _
-      (both_true (within 1 32 (at code 5)) _ (of_within 1 32 (at code 5) y.processes) (of_within 1 4096 (at code 6) y.instructions))
+      and_from (head_fits code) (rest_fits code)
+      (and_from (timing_fits code) _
+      (and_from (within 1 2 (at code 0)) _ (of_within 1 2 (at code 0) y.kind) (of_within 1 60000 (at code 1) y.tact))
+      (and_from (memory_fits code) _
+      (and_from (within 0 64 (at code 2)) _ (of_within 0 64 (at code 2) y.cells) (and_from (within 0 32 (at code 3)) _ (of_within 0 32 (at code 3) y.inputs) (of_within 0 32 (at code 4) y.outputs)))
+      (and_from (program_fits code) _
+      (and_from (within 1 32 (at code 5)) _ (of_within 1 32 (at code 5) y.processes) (of_within 1 4096 (at code 6) y.instructions))
       (eq-eqb (length code) _ y.size))))
-      (both_true (every (process_fits code) 0 (word code 5)) _
-      (every_made (process_fits code) (word code 5) 0 (λ q l k. process q (omega arith) some))
-      (both_true (instructions_fit (head code) 0 (body code 0)) (ends code)
+      (and_from (every (process_fits code) (word code 5)) _
+      (every_made (process_fits code) (word code 5) (λ q l. process q l some))
+      (and_from (instructions_fit (head code) 0 (body code 0)) (ends code)
       (instructions_of_layout y)
       (of_zero (opcode code (word code 6 - 1)) y.last)))
     where
@@ -137,5 +133,5 @@ module _ (code : List ℤ) where
 
       process : (q : ℕ) → q < word code 5 → 1 ≤ word code 6 → process_fits code q ≡ true
       process q l some =
-          both_true (within 1 16 (states_word code q)) _ (of_within 1 16 (states_word code q) (y.some_states q l))
-          (every_made (entry_fits code q) 16 0 (λ s a b. entry q s l some (omega arith)))
+          and_from (within 1 16 (states_word code q)) _ (of_within 1 16 (states_word code q) (y.some_states q l))
+          (every_made (entry_fits code q) 16 (λ s k. entry q s l some k))

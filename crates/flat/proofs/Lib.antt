@@ -1,3 +1,4 @@
 pub mod Every
+pub mod KnownKinds
 pub mod Pairs
 pub mod Layouts

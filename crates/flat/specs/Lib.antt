@@ -1,4 +1,5 @@
 pub mod Words
+pub mod CellKinds
 pub mod Instructions
 pub mod Tests
 pub mod Layout

@@ -1,5 +1,6 @@
 -- The tests by which a code is found to be of the layout.
-use Rattle.std.specs.Prelude.{ℕ, zero, suc, ◌+◌, ◌-◌, ◌*◌, Bool, true, false, cond, ◌&&◌, ◌||◌, List, [], ◌∷◌, length, ℤ, pos, negsuc, ◌==◌, nat_le, nat_lt}
+use Rattle.std.specs.Prelude.{ℕ, ◌+◌, ◌-◌, ◌*◌, Bool, true, false, cond, ◌&&◌, ◌||◌, List, [], ◌∷◌, length, ℤ, pos, negsuc, ◌==◌, nat_le, nat_lt}
+use Rattle.std.specs.List.{list_all, range_with_len}
 use Rattle.flat.specs.declared.head.Head.{Head}
 use Rattle.flat.specs.Words.{at, word, head, states, states_word, entry_word, body, opcode}
 
@@ -23,10 +24,9 @@ abbrev pub ahead : ℕ → ℕ → ℤ → Bool
 ahead i total (pos n) = nat_lt i n && nat_lt n total
 ahead i total (negsuc n) = false
 
--- A test holds at each of the next n places, from place i on.
-unfoldable pub every : (ℕ → Bool) → ℕ → ℕ → Bool
-every test i zero = true
-every test i (suc n) = test i && every test (i + 1) n
+-- A test holds at each of the first n places.
+unfoldable pub every : (ℕ → Bool) → ℕ → Bool
+every test n = list_all test (range_with_len 0 n)
 
 -- A kind that is known, and a tact of 1 to 60,000 milliseconds.
 abbrev pub timing_fits : List ℤ → Bool
@@ -50,7 +50,7 @@ entry_fits code q s = cond (nat_lt s (states code q)) (under (word code 6) (entr
 
 -- A process has 1 to 16 states, and its entries fit.
 abbrev pub process_fits : List ℤ → ℕ → Bool
-process_fits code q = within 1 16 (states_word code q) && every (entry_fits code q) 0 16
+process_fits code q = within 1 16 (states_word code q) && every (entry_fits code q) 16
 
 -- The operand x of the instruction with the number o, which is instruction i of its code.
 abbrev pub operand_fits : Head → ℕ → ℕ → ℤ → Bool
@@ -82,7 +82,7 @@ ends code = is_zero (opcode code (word code 6 - 1))
 
 -- The processes and the instructions fit, and the last instruction is end.
 abbrev pub rest_fits : List ℤ → Bool
-rest_fits code = every (process_fits code) 0 (word code 5) && (instructions_fit (head code) 0 (body code 0) && ends code)
+rest_fits code = every (process_fits code) (word code 5) && (instructions_fit (head code) 0 (body code 0) && ends code)
 
 -- A code of the layout.
 unfoldable pub fits : List ℤ → Bool

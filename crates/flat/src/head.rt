@@ -2,10 +2,12 @@
 ghost use Rattle.std.specs.Prelude.{◌≡◌};
 ghost use Rattle.flat.specs.Words.{head};
 
-use crate::words::{count_at, word_at};
+use crate::words::{
+    CELLS, INPUTS, INSTRUCTIONS, KIND, OUTPUTS, PROCESSES, TACT, count_at, word_at,
+};
 
 // The seven words in front of a code.
-#[derive(Clone, Copy)]
+#[derive(Clone, Copy, PartialEq, Eq, Debug)]
 pub struct Head {
     pub kind: i32,
     pub tact: usize,
@@ -22,13 +24,13 @@ impl Head {
         ensures { result ≡ head code.now }
     {
         Head {
-            kind: word_at(code, 0),
-            tact: count_at(code, 1),
-            cells: count_at(code, 2),
-            inputs: count_at(code, 3),
-            outputs: count_at(code, 4),
-            processes: count_at(code, 5),
-            instructions: count_at(code, 6),
+            kind: word_at(code, KIND),
+            tact: count_at(code, TACT),
+            cells: count_at(code, CELLS),
+            inputs: count_at(code, INPUTS),
+            outputs: count_at(code, OUTPUTS),
+            processes: count_at(code, PROCESSES),
+            instructions: count_at(code, INSTRUCTIONS),
         }
     }
 }

@@ -6,7 +6,7 @@ ghost use Rattle.flat.specs.declared.instr.Instr.TheVariants.{End};
 use crate::words::as_count;
 
 // What an instruction can push.
-#[derive(Clone, Copy)]
+#[derive(Clone, Copy, PartialEq, Eq, Debug)]
 pub enum Source {
     Lit(i32),
     Cell(usize),
@@ -21,14 +21,14 @@ pub enum Source {
 }
 
 // An operation on the top of the stack.
-#[derive(Clone, Copy)]
+#[derive(Clone, Copy, PartialEq, Eq, Debug)]
 pub enum Unary {
     Not,
     Test,
 }
 
 // An operation on the two values on top.
-#[derive(Clone, Copy)]
+#[derive(Clone, Copy, PartialEq, Eq, Debug)]
 pub enum Binary {
     Add,
     Sub,
@@ -39,7 +39,7 @@ pub enum Binary {
 }
 
 // A change of one process row of the board.
-#[derive(Clone, Copy)]
+#[derive(Clone, Copy, PartialEq, Eq, Debug)]
 pub enum Control {
     State(usize),
     Start(usize),
@@ -49,7 +49,7 @@ pub enum Control {
 }
 
 // One instruction, with its operand.
-#[derive(Clone, Copy)]
+#[derive(Clone, Copy, PartialEq, Eq, Debug)]
 pub enum Instr {
     End,
     Push(Source),
@@ -62,12 +62,13 @@ pub enum Instr {
     Set(Control),
 }
 
-// Instructions 0 to 14.
-fn decode_low(number: usize, operand: i32, n: usize) -> Instr
-    requires { number < 15 }
-    ensures { result ≡ slice_index_or (table operand n) number End }
+// The instruction that a number and an operand stand for.
+#[tactic(auto, unfolding(crate::specs::Instructions::decoded))]
+pub fn decode(op: i32, operand: i32) -> Instr
+    ensures { result ≡ decoded op operand }
 {
-    match number {
+    let n = as_count(operand);
+    match as_count(op) {
         1 => Instr::Push(Source::Lit(operand)),
         2 => Instr::Push(Source::Cell(n)),
         3 => Instr::Push(Source::In(n)),
@@ -82,16 +83,6 @@ fn decode_low(number: usize, operand: i32, n: usize) -> Instr
         12 => Instr::Combine(Binary::Same),
         13 => Instr::Convert(Unary::Not),
         14 => Instr::Convert(Unary::Test),
-        _ => Instr::End,
-    }
-}
-
-// Instructions 15 to 27.
-fn decode_high(number: usize, operand: i32, n: usize) -> Instr
-    requires { 15 ≤ number }
-    ensures { result ≡ slice_index_or (table operand n) number End }
-{
-    match number {
         15 => Instr::Jump(n),
         16 => Instr::Unless(n),
         17 => Instr::Keep(n),
@@ -106,18 +97,5 @@ fn decode_high(number: usize, operand: i32, n: usize) -> Instr
         26 => Instr::Push(Source::Stopped(n)),
         27 => Instr::Push(Source::Failed(n)),
         _ => Instr::End,
-    }
-}
-
-// The instruction that a number and an operand stand for.
-pub fn decode(op: i32, operand: i32) -> Instr
-    ensures { result ≡ decoded op operand }
-{
-    let number = as_count(op);
-    let n = as_count(operand);
-    if number < 15 {
-        decode_low(number, operand, n)
-    } else {
-        decode_high(number, operand, n)
     }
 }

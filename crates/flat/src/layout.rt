@@ -5,109 +5,134 @@ ghost use Rattle.flat.specs.Tests.{within, timing_fits, memory_fits, program_fit
 ghost use Rattle.flat.specs.Layout.{Reads};
 
 use crate::head::Head;
+use crate::kind::CellKind;
 use crate::operand::{instructions_fit, is_under};
-use crate::words::{count_at, word_at};
+use crate::words::{
+    CELLS, INPUTS, INSTRUCTIONS, KIND, OUTPUTS, PROCESSES, TACT, count_at, instruction_place,
+    instructions_from, process_place, word_at,
+};
 
 // A code that is not of the layout.
-#[derive(Clone, Copy)]
+#[derive(Clone, Copy, PartialEq, Eq, Debug)]
 pub struct NotFlatCode;
 
+// The longest tact, in milliseconds.
+const MAX_TACT: usize = 60000;
+
+// The most cells.
+const MAX_CELLS: usize = 64;
+
+// The most inputs, and the most outputs.
+const MAX_LINES: usize = 32;
+
+// The most processes.
+const MAX_PROCESSES: usize = 32;
+
+// The most states of a process.
+const MAX_STATES: usize = 16;
+
+// The most instructions.
+const MAX_INSTRUCTIONS: usize = 4096;
+
+// Whether a word is a number from `low` to `high`.
 fn is_within(low: usize, high: usize, x: i32) -> bool
     ensures { result ≡ within low high x }
 {
-    x >= 0 && low <= x as usize && x as usize <= high
+    usize::try_from(x).is_ok_and(|n| (low..=high).contains(&n))
 }
 
+// Whether the kind is known and the tact within its limits.
 fn timing_fits(code: &[i32]) -> bool
     ensures { result ≡ timing_fits code.now }
 {
-    is_within(1, 2, word_at(code, 0)) && is_within(1, 60000, word_at(code, 1))
+    CellKind::try_from(word_at(code, KIND)).is_ok() && is_within(1, MAX_TACT, word_at(code, TACT))
 }
 
+// Whether there are no more cells, inputs and outputs than there may be.
 fn memory_fits(code: &[i32]) -> bool
     ensures { result ≡ memory_fits code.now }
 {
-    is_within(0, 64, word_at(code, 2))
-        && is_within(0, 32, word_at(code, 3))
-        && is_within(0, 32, word_at(code, 4))
+    is_within(0, MAX_CELLS, word_at(code, CELLS))
+        && is_within(0, MAX_LINES, word_at(code, INPUTS))
+        && is_within(0, MAX_LINES, word_at(code, OUTPUTS))
 }
 
+// Whether there are as many processes and instructions as there may be.
 fn program_fits(code: &[i32]) -> bool
     ensures { result ≡ program_fits code.now }
 {
-    is_within(1, 32, word_at(code, 5)) && is_within(1, 4096, word_at(code, 6))
+    is_within(1, MAX_PROCESSES, word_at(code, PROCESSES))
+        && is_within(1, MAX_INSTRUCTIONS, word_at(code, INSTRUCTIONS))
 }
 
+// Whether the head fits, and the code is as long as it says.
 fn head_fits(code: &[i32]) -> bool
     ensures { result ≡ head_fits code.now }
 {
     timing_fits(code)
         && memory_fits(code)
         && program_fits(code)
-        && code.len() == 7 + 17 * count_at(code, 5) + 2 * count_at(code, 6)
+        && code.len() == instruction_place(code, count_at(code, INSTRUCTIONS))
 }
 
+// Whether the entry of state `s` of process `q` fits, or is 0 where there is no such state.
 fn entry_fits(code: &[i32], q: usize, s: usize) -> bool
     requires { (q < 32) × (s < 16) }
     ensures { result ≡ entry_fits code.now q s }
 {
-    let entry = word_at(code, 8 + 17 * q + s);
-    if s < count_at(code, 7 + 17 * q) {
-        is_under(count_at(code, 6), entry)
+    let place = process_place(q);
+    let entry = word_at(code, place + 1 + s);
+    if s < count_at(code, place) {
+        is_under(count_at(code, INSTRUCTIONS), entry)
     } else {
         entry == 0
     }
 }
 
+// Whether each entry of process `q` fits.
+#[tactic(auto, unfolding(crate::specs::Tests::every))]
 fn entries_fit(code: &[i32], q: usize) -> bool
     requires { q < 32 }
-    ensures { result ≡ every (entry_fits code.now q) 0 16 }
+    ensures { result ≡ every (entry_fits code.now q) 16 }
 {
-    for s in 0..16 {
-        if !entry_fits(code, q, s) {
-            return false;
-        }
-    }
-    true
+    (0..MAX_STATES).all(|s| entry_fits(code, q, s))
 }
 
+// Whether process `q` has as many states as it may have, and its entries fit.
 fn process_fits(code: &[i32], q: usize) -> bool
     requires { q < 32 }
     ensures { result ≡ process_fits code.now q }
 {
-    is_within(1, 16, word_at(code, 7 + 17 * q)) && entries_fit(code, q)
+    is_within(1, MAX_STATES, word_at(code, process_place(q))) && entries_fit(code, q)
 }
 
+// Whether each process fits.
+#[tactic(auto, unfolding(crate::specs::Tests::every))]
 fn processes_fit(code: &[i32]) -> bool
     requires { word code.now 5 ≤ 32 }
-    ensures { result ≡ every (process_fits code.now) 0 (word code.now 5) }
+    ensures { result ≡ every (process_fits code.now) (word code.now 5) }
 {
-    for q in 0..count_at(code, 5) {
-        if !process_fits(code, q) {
-            return false;
-        }
-    }
-    true
+    (0..count_at(code, PROCESSES)).all(|q| process_fits(code, q))
 }
 
+// Whether the last instruction is end.
 fn ends_well(code: &[i32]) -> bool
     requires { head_fits code.now ≡ true }
     ensures { result ≡ ends code.now }
 {
-    word_at(
-        code,
-        7 + 17 * count_at(code, 5) + 2 * (count_at(code, 6) - 1),
-    ) == 0
+    let last = count_at(code, INSTRUCTIONS) - 1;
+    word_at(code, instruction_place(code, last)) == 0
 }
 
+// Whether each instruction fits.
 fn body_fits(code: &[i32]) -> bool
     requires { head_fits code.now ≡ true }
     ensures { result ≡ instructions_fit (head code.now) 0 (body code.now 0) }
 {
-    let head = Head::of(code);
-    instructions_fit(&head, &code[7 + 17 * head.processes..])
+    instructions_fit(&Head::of(code), instructions_from(code, 0))
 }
 
+// Whether all behind the head fits.
 fn rest_fits(code: &[i32]) -> bool
     requires { head_fits code.now ≡ true }
     ensures { result ≡ rest_fits code.now }
@@ -116,6 +141,7 @@ fn rest_fits(code: &[i32]) -> bool
 }
 
 // Whether a code is of the layout.
+#[tactic(auto, unfolding(crate::specs::Tests::fits))]
 fn is_flat_code(code: &[i32]) -> bool
     ensures { result ≡ fits code.now }
 {

@@ -3,6 +3,7 @@
 
 pub mod head;
 pub mod instr;
+pub mod kind;
 pub mod layout;
 mod operand;
 pub mod words;

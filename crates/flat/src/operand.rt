@@ -4,16 +4,18 @@ ghost use Rattle.flat.specs.Tests.{under, ahead, operand_fits, instruction_fits,
 
 use crate::head::Head;
 
+// Whether a word is a number below a limit.
 pub(crate) fn is_under(limit: usize, x: i32) -> bool
     ensures { result ≡ under limit x }
 {
-    x >= 0 && (x as usize) < limit
+    usize::try_from(x).is_ok_and(|n| n < limit)
 }
 
+// Whether a word is an instruction behind instruction `i`, of `total`.
 fn is_ahead(i: usize, total: usize, x: i32) -> bool
     ensures { result ≡ ahead i total x }
 {
-    x >= 0 && i < x as usize && (x as usize) < total
+    usize::try_from(x).is_ok_and(|n| i < n && n < total)
 }
 
 // Whether the operand `x` of instruction `i`, whose number is `o`, fits.
@@ -34,15 +36,18 @@ fn operand_fits(head: &Head, i: usize, o: usize, x: i32) -> bool
     }
 }
 
+// Whether instruction `i` has one of the known numbers, and its operand fits.
 fn instruction_fits(head: &Head, i: usize, op: i32, x: i32) -> bool
     ensures { result ≡ instruction_fits head.now i op x }
 {
-    op >= 0 && operand_fits(head, i, op as usize, x)
+    let Ok(o) = usize::try_from(op) else {
+        return false;
+    };
+    operand_fits(head, i, o, x)
 }
 
-// Whether each of the instructions in `words` fits.
+// Whether each of the instructions in `words` fits. The slice pattern takes the code apart as the project wants it, so the number is counted beside it.
 pub(crate) fn instructions_fit(head: &Head, words: &[i32]) -> bool
-    requires { length words.now ≤ 8192 }
     ensures { result ≡ instructions_fit head.now 0 words.now }
 {
     let mut left = words;

@@ -1,4 +1,4 @@
-pub mod Ways
+pub mod Table
 pub mod Openers
 pub mod Depth
 pub mod Lines

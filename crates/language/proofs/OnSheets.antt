@@ -13,13 +13,13 @@ use Rattle.language.specs.Grammar.{Item, as_word, as_number, as_term, as_act, as
 use Rattle.language.specs.Causes.{lines, unfit, first_unfit}
 use Rattle.language.specs.OnSheet.{inner_row, second_row, third_row, fourth_row, word_in, word_at, digits_in, digits_at, house_in, house_at, count_in, count_at, statement_view, house_act, act_view, row_view, house_view, head_view, term_of, term_at, act_of, act_at, acts_of, line_of, line_at, lines_at}
 use Rattle.language.specs.declared.house.Opener.{Opener}
-use Rattle.language.specs.declared.house.Opener.TheVariants.{Kind, Tact, Const, Cell, In, Out, Proc, State}
+use Rattle.language.specs.declared.house.Opener.TheVariants.{Kind, Tact, Const, State}
 use Rattle.language.specs.declared.house.TermHead.{TermHead}
 use Rattle.language.specs.declared.house.TermHead.TheVariants as term_head
 use Rattle.language.specs.declared.house.ActHead.{ActHead}
 use Rattle.language.specs.declared.house.ActHead.TheVariants as act_head
 use Rattle.language.specs.declared.house.House.{House}
-use Rattle.language.specs.declared.house.House.TheVariants.{Opens, Expression, Statement, KindName}
+use Rattle.language.specs.declared.house.House.TheVariants.{Expression, Statement}
 use Rattle.language.proofs.Readings.{no_value, same_value, then_read, changed_read, never_read, either_read, next_read, takes_read, ends_read, is_word, is_number, is_act}
 
 -- What holds of a value if it is there.
@@ -53,11 +53,9 @@ module _ {R : Type 0} (P : R → Type 0) where
 
 -- The statement that an item is, a timeout too.
 abbrev pub statement : Item → Option Act
-statement (Item.word w) = None
-statement (Item.number ds) = None
-statement (Item.term e) = None
 statement (Item.act s) = Some s
 statement (Item.timeout s) = Some s
+statement _ = None
 
 -- The items of a form, from a row on.
 abbrev pub items_of : ℕ → List Row → ℕ → ℕ → Option (List Item)
@@ -71,45 +69,28 @@ form_inner d rows at = ⊎_elim (λ h. rw (lt-ltb at (length rows) h)) (λ h. rw
 abbrev Formed : Item → Type 0
 Formed (Item.word w) = ⊥
 Formed (Item.number ds) = ⊥
-Formed (Item.term e) = Unit {0}
-Formed (Item.act s) = Unit {0}
-Formed (Item.timeout s) = Unit {0}
+Formed _ = Unit {0}
 
 abbrev Acting : Item → Type 0
-Acting (Item.word w) = ⊥
-Acting (Item.number ds) = ⊥
-Acting (Item.term e) = ⊥
 Acting (Item.act s) = Unit {0}
 Acting (Item.timeout s) = Unit {0}
+Acting _ = ⊥
 
 ruleset kept = (then_keeps, takes_keeps, ends_keeps, changed_keeps, either_keeps)
 
 acting : (h : ActHead) (is : List Item) → Keeps Acting (act_row h is)
 acting act_head.Put is = search kept
-acting act_head.If is = search kept depth 9
-acting act_head.Do is = search kept
-acting act_head.Go is = search kept
-acting act_head.Next is = search kept
-acting act_head.Start is = search kept
-acting act_head.Restart is = search kept
-acting act_head.Stop is = search kept depth 9
-acting act_head.Fail is = search kept
-acting act_head.Reset is = search kept
-acting act_head.After is = search kept
+acting _ is = search kept depth 9
 
 formed : (h : House) (is : List Item) → Keeps Formed (form_row h is)
-formed (Opens o) is = tt
 formed (Expression h) is = search kept
 formed (Statement h) is = acting-formed (act_row h is) (acting h is)
   where
     acting-formed : (o : Option Item) → Keeps Acting o → Keeps Formed o
-    acting-formed None k = tt
     acting-formed (Some (Item.word w)) k = k
     acting-formed (Some (Item.number ds)) k = k
-    acting-formed (Some (Item.term e)) k = tt
-    acting-formed (Some (Item.act s)) k = tt
-    acting-formed (Some (Item.timeout s)) k = tt
-formed (KindName k) is = tt
+    acting-formed _ k = tt
+formed _ is = tt
 
 form_formed : (fs : Forms) → Keeps Formed (item (Form.form fs))
 form_formed fs = search (kept, formed) depth 9
@@ -145,29 +126,22 @@ module _ (d : ℕ) (rows : List Row) (at : ℕ) {i : Item} (read : item (form_at
   house_as e = then_read (as_word i) house e (λ w p q. (word_read d rows at (read ∙ ap Some (is_word i p))).1 ∙ q)
 
 acting_no_term : (i : Item) {e : Term} → Acting i → as_term i ≡ Some e → ⊥
-acting_no_term (Item.word w) a e = a
-acting_no_term (Item.number ds) a e = a
-acting_no_term (Item.term t) a e = a
 acting_no_term (Item.act s) a e = no_value e
 acting_no_term (Item.timeout s) a e = no_value e
+acting_no_term _ a e = a
 
 -- Expressions.
 module _ (d : ℕ) (rows : List Row) (at : ℕ) (T : ℕ → Term) (part : (p : ℕ) (i : Item) (e : Term) → item (form_at d rows p) ≡ Some i → as_term i ≡ Some e → T p ≡ e) where
   term_head_read : (k : ℕ) (h : TermHead) {e : Term} → and_then (items_of d rows (second_row rows at) k) (term_row h) ≡ Some e → term_of rows at T (head_view rows at h) ≡ e
-  term_head_read k (term_head.Operate o) r =
-      takes_read _ rows _ k as_term _ r λ j i a l p q r. takes_read _ rows _ j as_term _ r λ j i b l p' q' r. ends_read _ rows _ j _ r λ l e. cc (part _ _ _ p q, part _ _ _ p' q')
   term_head_read k term_head.Not r = takes_read _ rows _ k as_term _ r λ j i a l p q r. ends_read _ rows _ j _ r λ l e. cc (part _ _ _ p q)
-  term_head_read k term_head.And r =
-      takes_read _ rows _ k as_term _ r λ j i a l p q r. takes_read _ rows _ j as_term _ r λ j i b l p' q' r. ends_read _ rows _ j _ r λ l e. cc (part _ _ _ p q, part _ _ _ p' q')
-  term_head_read k term_head.Or r =
-      takes_read _ rows _ k as_term _ r λ j i a l p q r. takes_read _ rows _ j as_term _ r λ j i b l p' q' r. ends_read _ rows _ j _ r λ l e. cc (part _ _ _ p q, part _ _ _ p' q')
   term_head_read k (term_head.Ask o) r = takes_read _ rows _ k as_word _ r λ j i a l p q r. ends_read _ rows _ j _ r λ l e. cc (word_as d rows _ p q)
+  term_head_read k _ r =
+      takes_read _ rows _ k as_term _ r λ j i a l p q r. takes_read _ rows _ j as_term _ r λ j i b l p' q' r. ends_read _ rows _ j _ r λ l e. cc (part _ _ _ p q, part _ _ _ p' q')
 
   term_house_read : (k : ℕ) (h : House) {i : Item} {e : Term} → and_then (items_of d rows (second_row rows at) k) (form_row h) ≡ Some i → as_term i ≡ Some e → term_of rows at T (house_view rows at (Some h)) ≡ e
-  term_house_read k (Opens o) r q = never_read _ r
   term_house_read k (Expression h) r q = changed_read _ Item.term (term_row h) r λ e' p f. term_head_read k h p ∙ same_value (ap as_term f ∙ q)
   term_house_read k (Statement h) r q = absurd (acting_no_term _ (subst (Keeps Acting) r (then_keeps Acting _ (act_row h) (acting h))) q)
-  term_house_read k (KindName o) r q = never_read _ r
+  term_house_read k _ r q = never_read _ r
 
   term_row_read : (x : Row) → row_at rows at ≡ x → {i : Item} {e : Term} → item (shape (items_at (form_at d rows) rows (inner_row rows at)) x) ≡ Some i → as_term i ≡ Some e → term_of rows at T (row_view rows at x) ≡ e
   term_row_read (WordRow w) x r q = ap (λ y. Term.named (word_in y)) x ∙ same_value (ap as_term (same_value r) ∙ q)
@@ -220,22 +194,18 @@ module _ (d : ℕ) (rows : List Row) (A : ℕ → Act) (part : (p : ℕ) (i : It
         takes_read _ rows _ k as_act _ r λ j i s l p q r. changed_read (items_of d rows (third_row rows at) j) (λ t. Item.act (Act.then s t)) acts r λ t e f.
         let n : count_at rows at - 1 ≡ suc j = omega arith in rw n (cc (ap statement f, act_as _ _ p q, acts_read (third_row rows at) j e))
     act-head-read k act_head.Go c r = takes_read _ rows _ k as_word _ r λ j i n l p q r. ends_read _ rows _ j _ r λ l f. cc (ap statement f, word_as d rows _ p q)
-    act-head-read k act_head.Next c r = ends_read _ rows _ k _ r λ l f. cc (ap statement f)
     act-head-read k act_head.Start c r = takes_read _ rows _ k as_word _ r λ j i n l p q r. ends_read _ rows _ j _ r λ l f. cc (ap statement f, word_as d rows _ p q)
-    act-head-read k act_head.Restart c r = ends_read _ rows _ k _ r λ l f. cc (ap statement f)
     act-head-read k act_head.Stop c r =
         either_read (items_of d rows (second_row rows at) k) (ends (Item.act Act.halt)) (takes as_word λ p. ends (Item.act (Act.stop p))) r
         (λ r. ends_read _ rows _ k _ r λ m f. let n : count_at rows at ≡ 1 = omega arith in rw n (cc (ap statement f)))
         (λ r. takes_read _ rows _ k as_word _ r λ j i w l p q r. ends_read _ rows _ j _ r λ m f. let n : count_at rows at ≡ 2 = omega arith in rw n (cc (ap statement f, word_as d rows _ p q)))
-    act-head-read k act_head.Fail c r = ends_read _ rows _ k _ r λ l f. cc (ap statement f)
-    act-head-read k act_head.Reset c r = ends_read _ rows _ k _ r λ l f. cc (ap statement f)
     act-head-read k act_head.After c r = takes_read _ rows _ k as_number _ r λ j i n l p q r. takes_read _ rows _ j as_act _ r λ j i e l p' q' r. ends_read _ rows _ j _ r λ l f. cc (ap statement f, number_as d rows _ p q, act_as _ _ p' q')
+    act-head-read k _ c r = ends_read _ rows _ k _ r λ l f. cc (ap statement f)
 
     act-house-read : (k : ℕ) (h : House) {i : Item} {s : Act} → count_at rows at ≡ suc k → and_then (items_of d rows (second_row rows at) k) (form_row h) ≡ Some i → statement i ≡ Some s → act_of rows T A (house_act rows at (Some h)) ≡ s
-    act-house-read k (Opens o) c r q = never_read _ r
     act-house-read k (Expression h) c r q = changed_read (items_of d rows (second_row rows at) k) Item.term (term_row h) r λ e p f. absurd (no_value (ap statement f ∙ q))
     act-house-read k (Statement h) c r q = same_value (sym (act-head-read k h c r) ∙ q)
-    act-house-read k (KindName o) c r q = never_read _ r
+    act-house-read k _ c r q = never_read _ r
 
     act-row-read : (x : Row) → row_at rows at ≡ x → {i : Item} {s : Act} → item (shape (items_at (form_at d rows) rows (inner_row rows at)) x) ≡ Some i → statement i ≡ Some s → act_of rows T A (act_view rows at) ≡ s
     act-row-read (WordRow w) x r q = absurd (no_value (ap statement (same_value r) ∙ q))
@@ -254,13 +224,10 @@ module _ (rows : List Row) (at : ℕ) where
   opener_row_read k Tact c r = takes_read _ rows _ k as_number _ r λ j i n m p q r. ends_read _ rows _ j _ r λ m f. cc (number_as 12 rows _ p q)
   opener_row_read k Const c r =
       takes_read _ rows _ k as_word _ r λ j i w m p q r. takes_read _ rows _ j as_number _ r λ j i n m p' q' r. ends_read _ rows _ j _ r λ m f. cc (word_as 12 rows _ p q, number_as 12 rows _ p' q')
-  opener_row_read k Cell c r = takes_read _ rows _ k as_word _ r λ j i w m p q r. ends_read _ rows _ j _ r λ m f. cc (word_as 12 rows _ p q)
-  opener_row_read k In c r = takes_read _ rows _ k as_word _ r λ j i w m p q r. ends_read _ rows _ j _ r λ m f. cc (word_as 12 rows _ p q)
-  opener_row_read k Out c r = takes_read _ rows _ k as_word _ r λ j i w m p q r. ends_read _ rows _ j _ r λ m f. cc (word_as 12 rows _ p q)
-  opener_row_read k Proc c r = takes_read _ rows _ k as_word _ r λ j i w m p q r. ends_read _ rows _ j _ r λ m f. cc (word_as 12 rows _ p q)
   opener_row_read k State c r =
       takes_read _ rows _ k as_word _ r λ j i w m p q r. changed_read (items_of 12 rows (third_row rows at) j) (Line.state w) body r λ b e f.
       let n : count_at rows at - 2 ≡ j = omega arith in rw n (cc (word_as 12 rows _ p q, body_read 12 rows (act_at 12 rows) (act_read 12 rows) (third_row rows at) j b e))
+  opener_row_read k _ c r = takes_read _ rows _ k as_word _ r λ j i w m p q r. ends_read _ rows _ j _ r λ m f. cc (word_as 12 rows _ p q)
 
   line_row_read : (x : Row) → row_at rows at ≡ x → {l : Line} → line (shape (items_at (form_at 12 rows) rows (inner_row rows at)) x) ≡ Some l → line_at rows at ≡ l
   unfolding line_at

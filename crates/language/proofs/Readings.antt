@@ -76,21 +76,12 @@ module _ {R G : Type 0} (F : ℕ → Form) (rows : List Row) where
 -- An item that reads as a word, a number or a statement is one.
 pub is_word : (i : Item) {w : Word} → as_word i ≡ Some w → i ≡ Item.word w
 is_word (Item.word v) e = ap Item.word (same_value e)
-is_word (Item.number ds) e = absurd (no_value e)
-is_word (Item.term t) e = absurd (no_value e)
-is_word (Item.act s) e = absurd (no_value e)
-is_word (Item.timeout s) e = absurd (no_value e)
+is_word _ e = absurd (no_value e)
 
 pub is_number : (i : Item) {ds : List ℕ} → as_number i ≡ Some ds → i ≡ Item.number ds
-is_number (Item.word v) e = absurd (no_value e)
 is_number (Item.number ds) e = ap Item.number (same_value e)
-is_number (Item.term t) e = absurd (no_value e)
-is_number (Item.act s) e = absurd (no_value e)
-is_number (Item.timeout s) e = absurd (no_value e)
+is_number _ e = absurd (no_value e)
 
 pub is_act : (i : Item) {s : Act} → as_act i ≡ Some s → i ≡ Item.act s
-is_act (Item.word v) e = absurd (no_value e)
-is_act (Item.number ds) e = absurd (no_value e)
-is_act (Item.term t) e = absurd (no_value e)
 is_act (Item.act s) e = ap Item.act (same_value e)
-is_act (Item.timeout s) e = absurd (no_value e)
+is_act _ e = absurd (no_value e)

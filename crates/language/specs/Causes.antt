@@ -47,48 +47,19 @@ abbrev mutual
 
 -- A statement is no timeout outside 0 to 65,535.
 abbrev pub timely : Act → Bool
-timely (Act.put w e) = true
-timely (Act.choose e s t) = true
-timely (Act.when e s) = true
-timely Act.pass = true
-timely (Act.then s t) = true
-timely (Act.go s) = true
-timely (Act.start p) = true
-timely (Act.stop p) = true
-timely Act.next = true
-timely Act.restart = true
-timely Act.halt = true
-timely Act.fail = true
-timely Act.reset = true
 timely (Act.after n s) = within (pos 0) (pos 65535) (value_of n)
+timely _ = true
 
 -- None of a body's own statements is such a timeout.
 abbrev pub all_timely : Act → Bool
-all_timely (Act.put w e) = true
-all_timely (Act.choose e s t) = true
-all_timely (Act.when e s) = true
-all_timely Act.pass = true
 all_timely (Act.then s t) = timely s && all_timely t
-all_timely (Act.go s) = true
-all_timely (Act.start p) = true
-all_timely (Act.stop p) = true
-all_timely Act.next = true
-all_timely Act.restart = true
-all_timely Act.halt = true
-all_timely Act.fail = true
-all_timely Act.reset = true
-all_timely (Act.after n s) = true
+all_timely _ = true
 
 -- A period outside 1 to 60,000, or a timeout outside 0 to 65,535.
 abbrev pub past_range : Line → Bool
-past_range (Line.kind k) = false
 past_range (Line.tact n) = not (within (pos 1) (pos 60000) (value_of n))
-past_range (Line.const w n) = false
-past_range (Line.cell w) = false
-past_range (Line.input w) = false
-past_range (Line.output w) = false
-past_range (Line.process w) = false
 past_range (Line.state w b) = not (all_timely b)
+past_range _ = false
 
 -- How many lines of a sort there may be, states in each process.
 abbrev pub most : Opener → ℕ

@@ -1,5 +1,6 @@
 -- What items each form takes: from forms to expressions, statements and lines, by shape alone.
 use Rattle.std.specs.Prelude.{ℕ, List, [], ◌∷◌, ℤ, Some, None, Option}
+use Rattle.flat.specs.CellKinds.{number_of}
 use Rattle.text.specs.Form.{Form, Forms, none, more}
 use Rattle.language.specs.Basics.{Word, and_then, changed, or_else}
 use Rattle.language.specs.Named.{Term, Act, Line}
@@ -22,32 +23,22 @@ pub data Item : Type 0 where
 
 abbrev pub as_word : Item → Option Word
 as_word (word w) = Some w
-as_word (number ds) = None
-as_word (term e) = None
-as_word (act s) = None
-as_word (timeout s) = None
+as_word _ = None
 
 abbrev pub as_number : Item → Option (List ℕ)
-as_number (word w) = None
 as_number (number ds) = Some ds
-as_number (term e) = None
-as_number (act s) = None
-as_number (timeout s) = None
+as_number _ = None
 
 -- An expression is a name, a number or a form that is one.
 abbrev pub as_term : Item → Option Term
 as_term (word w) = Some (Term.named w)
 as_term (number ds) = Some (Term.number ds)
 as_term (term e) = Some e
-as_term (act s) = None
-as_term (timeout s) = None
+as_term _ = None
 
 abbrev pub as_act : Item → Option Act
-as_act (word w) = None
-as_act (number ds) = None
-as_act (term e) = None
 as_act (act s) = Some s
-as_act (timeout s) = None
+as_act _ = None
 
 -- The next item is such a one, and then the rest follows.
 abbrev pub takes : {A R : Type 0} → (Item → Option A) → (A → List Item → Option R) → List Item → Option R
@@ -71,11 +62,9 @@ acts (i ∷ is) = and_then (as_act i) (λ s. changed (Act.then s) (acts is))
 -- Any number of statements, and a timeout as the last one or none.
 abbrev pub body : List Item → Option Act
 body [] = Some Act.pass
-body (word w ∷ is) = None
-body (number ds ∷ is) = None
-body (term e ∷ is) = None
 body (act s ∷ is) = changed (Act.then s) (body is)
 body (timeout s ∷ is) = ends (Act.then s Act.pass) is
+body (_ ∷ is) = None
 
 -- The items of each expression.
 abbrev pub term_row : TermHead → List Item → Option Term
@@ -101,10 +90,9 @@ act_row After = takes as_number λ n. takes as_act λ s. ends (timeout (Act.afte
 
 -- The items of the form that a house word begins.
 abbrev pub form_row : House → List Item → Option Item
-form_row (Opens o) is = None
 form_row (Expression h) is = changed term (term_row h is)
 form_row (Statement h) is = act_row h is
-form_row (KindName k) is = None
+form_row _ is = None
 
 -- The house word that an item is.
 abbrev pub as_house : Item → Option House
@@ -124,10 +112,8 @@ abbrev mutual
 
 -- The number of the kind that a word names.
 abbrev pub kind_named : House → Option ℤ
-kind_named (Opens o) = None
-kind_named (Expression h) = None
-kind_named (Statement h) = None
-kind_named (KindName k) = Some k
+kind_named (KindName k) = Some (number_of k)
+kind_named _ = None
 
 abbrev pub as_kind : Item → Option ℤ
 as_kind i = and_then (as_house i) kind_named
@@ -146,15 +132,12 @@ line_row State = takes as_word λ w is. changed (Line.state w) (body is)
 -- The sort of line that a house word begins.
 abbrev pub opens : House → Option Opener
 opens (Opens o) = Some o
-opens (Expression h) = None
-opens (Statement h) = None
-opens (KindName k) = None
+opens _ = None
 
 abbrev pub as_opener : Item → Option Opener
 as_opener i = and_then (as_house i) opens
 
 -- A line, if the form is one.
 abbrev pub line : Form → Option Line
-line (Form.word w) = None
-line (Form.number ds) = None
 line (Form.form fs) = and_then (items fs) (takes as_opener line_row)
+line _ = None

@@ -1,6 +1,7 @@
 -- The house words, and what each is there for.
-use Rattle.std.specs.Prelude.{List, [], ◌∷◌, pos, codes, Option}
+use Rattle.std.specs.Prelude.{List, [], ◌∷◌, codes, Option}
 use Rattle.flat.specs.declared.instr.Binary.TheVariants.{Add, Sub, Mul, Div, Less, Same}
+use Rattle.flat.specs.declared.kind.CellKind.TheVariants.{Long, Milli}
 use Rattle.language.specs.Basics.{Word, find, or_else}
 use Rattle.language.specs.declared.house.Opener.TheVariants.{Kind, Tact, Const, Cell, In, Out, Proc, State}
 use Rattle.language.specs.declared.house.Enquiry.TheVariants.{Active, Stopped, Failed, Passive}
@@ -15,9 +16,9 @@ opener_words =
     (codes "kind", Opens Kind) ∷ (codes "tact", Opens Tact) ∷ (codes "const", Opens Const) ∷ (codes "cell", Opens Cell)
     ∷ (codes "in", Opens In) ∷ (codes "out", Opens Out) ∷ (codes "proc", Opens Proc) ∷ (codes "state", Opens State) ∷ []
 
--- Words that name a kind of cell by its number.
+-- Words that name a kind of cell.
 abbrev pub kind_words : List (Word × House)
-kind_words = (codes "long", KindName (pos 1)) ∷ (codes "milli", KindName (pos 2)) ∷ []
+kind_words = (codes "long", KindName Long) ∷ (codes "milli", KindName Milli) ∷ []
 
 -- Words that begin an operation on two expressions.
 abbrev pub operation_words : List (Word × House)

@@ -52,14 +52,8 @@ declared o ls = names (those (is o) ls)
 
 -- The body of a state, and nothing to do elsewhere.
 abbrev pub body : Line → Act
-body (Line.kind k) = Act.pass
-body (Line.tact n) = Act.pass
-body (Line.const w n) = Act.pass
-body (Line.cell w) = Act.pass
-body (Line.input w) = Act.pass
-body (Line.output w) = Act.pass
-body (Line.process w) = Act.pass
 body (Line.state w b) = b
+body _ = Act.pass
 
 -- The state lines right behind a line.
 abbrev pub states_behind : List Line → List Line

@@ -15,7 +15,7 @@ use Rattle.language.specs.declared.house.TermHead.TheVariants as term_head
 use Rattle.language.specs.declared.house.ActHead.{ActHead}
 use Rattle.language.specs.declared.house.ActHead.TheVariants as act_head
 use Rattle.language.specs.declared.house.House.{House}
-use Rattle.language.specs.declared.house.House.TheVariants.{Opens, Expression, Statement, KindName}
+use Rattle.language.specs.declared.house.House.TheVariants.{Expression, Statement}
 use Rattle.language.specs.declared.view.TermView.{TermView}
 use Rattle.language.specs.declared.view.TermView.TheVariants.{Number, Name, Two, Not, And, Or, Ask, Odd}
 use Rattle.language.specs.declared.view.Change.{Change}
@@ -39,9 +39,8 @@ fourth_row rows at = next_row rows (third_row rows at)
 
 -- How many items a row has.
 abbrev pub count_in : Row → ℕ
-count_in (WordRow w) = 0
-count_in (NumberRow w) = 0
 count_in (FormRow k n) = k
+count_in _ = 0
 
 abbrev pub count_at : List Row → ℕ → ℕ
 count_at rows at = count_in (row_at rows at)
@@ -49,17 +48,15 @@ count_at rows at = count_in (row_at rows at)
 -- The word that a row is, or no byte.
 abbrev pub word_in : Row → Word
 word_in (WordRow w) = w.now
-word_in (NumberRow w) = []
-word_in (FormRow k n) = []
+word_in _ = []
 
 abbrev pub word_at : List Row → ℕ → Word
 word_at rows at = word_in (row_at rows at)
 
 -- The digits that a row is, or no byte.
 abbrev pub digits_in : Row → List ℕ
-digits_in (WordRow w) = []
 digits_in (NumberRow w) = w.now
-digits_in (FormRow k n) = []
+digits_in _ = []
 
 abbrev pub digits_at : List Row → ℕ → List ℕ
 digits_at rows at = digits_in (row_at rows at)
@@ -67,8 +64,7 @@ digits_at rows at = digits_in (row_at rows at)
 -- The house word that a row is.
 abbrev pub house_in : Row → Option House
 house_in (WordRow w) = house w.now
-house_in (NumberRow w) = None
-house_in (FormRow k n) = None
+house_in _ = None
 
 abbrev pub house_at : List Row → ℕ → Option House
 house_at rows at = house_in (row_at rows at)
@@ -87,11 +83,8 @@ head_view rows at (term_head.Ask q) = Ask q (second_row rows at)
 
 -- The expression at a row, taken apart.
 abbrev pub house_view : List Row → ℕ → Option House → TermView
-house_view rows at None = Odd
-house_view rows at (Some (Opens o)) = Odd
 house_view rows at (Some (Expression h)) = head_view rows at h
-house_view rows at (Some (Statement h)) = Odd
-house_view rows at (Some (KindName k)) = Odd
+house_view rows at _ = Odd
 
 abbrev pub row_view : List Row → ℕ → Row → TermView
 row_view rows at (WordRow w) = Name
@@ -117,11 +110,8 @@ statement_view rows at act_head.Reset = Set Reset
 
 -- The statement at a row, taken apart.
 abbrev pub house_act : List Row → ℕ → Option House → ActView
-house_act rows at None = OddAct
-house_act rows at (Some (Opens o)) = OddAct
-house_act rows at (Some (Expression h)) = OddAct
 house_act rows at (Some (Statement h)) = statement_view rows at h
-house_act rows at (Some (KindName k)) = OddAct
+house_act rows at _ = OddAct
 
 abbrev pub act_view : List Row → ℕ → ActView
 act_view rows at = house_act rows at (house_at rows (inner_row rows at))
@@ -150,6 +140,10 @@ sequence (a ∷ others) = Act.then a (sequence others)
 -- The next k statements from row p on, one behind another.
 abbrev pub acts_of : (ℕ → Act) → List Row → ℕ → ℕ → Act
 acts_of A rows p k = sequence (map A (starts rows p k))
+
+-- The statements that items are, one behind another.
+abbrev pub acts_in : (ℕ → Act) → Items → Act
+acts_in A items = acts_of A items.rows.now items.first items.count
 
 abbrev pub change_of : List Row → Change → Act
 change_of rows (Go s) = Act.go (word_at rows s)

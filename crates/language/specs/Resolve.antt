@@ -101,45 +101,26 @@ abbrev pub known : Names → List Word → Act → Bool
 known n states (put w e) = is_some (target n w) && known_term n e
 known n states (choose e s t) = known_term n e && (known n states s && known n states t)
 known n states (when e s) = known_term n e && known n states s
-known n states pass = true
 known n states (then s t) = known n states s && known n states t
 known n states (go s) = is_some (found s states)
 known n states (start p) = is_some (found p n.processes)
 known n states (stop p) = is_some (found p n.processes)
-known n states next = true
-known n states restart = true
-known n states halt = true
-known n states fail = true
-known n states reset = true
 known n states (after ds s) = known n states s
+known n states _ = true
 
 -- A statement has a `next`.
 abbrev pub has_next : Act → Bool
-has_next (put w e) = false
 has_next (choose e s t) = has_next s || has_next t
 has_next (when e s) = has_next s
-has_next pass = false
 has_next (then s t) = has_next s || has_next t
-has_next (go s) = false
-has_next (start p) = false
-has_next (stop p) = false
 has_next next = true
-has_next restart = false
-has_next halt = false
-has_next fail = false
-has_next reset = false
 has_next (after ds s) = has_next s
+has_next _ = false
 
 -- A constant and its value.
 abbrev pub constant : Line → Option (Word × ℤ)
-constant (Line.kind k) = None
-constant (Line.tact n) = None
 constant (Line.const w n) = Some (w, word_value n)
-constant (Line.cell w) = None
-constant (Line.input w) = None
-constant (Line.output w) = None
-constant (Line.process w) = None
-constant (Line.state w b) = None
+constant _ = None
 
 -- The constants that lines declare, with their values.
 abbrev pub constants_in : List Line → List (Word × ℤ)

@@ -1,15 +1,13 @@
 -- How many instructions expressions and statements take, before their names are looked up: whatever a name stands for takes one (Sizes in proofs/ ties them to the compiler's sizes).
 use Rattle.std.specs.Prelude.{ℕ, ◌+◌, min}
 use Rattle.language.specs.Named.{Term, number, named, two, isnt, both, either, ask}
-use Rattle.language.specs.Named.{Act, put, choose, when, pass, then, go, start, stop, next, restart, halt, fail, reset, after}
+use Rattle.language.specs.Named.{Act, put, choose, when, pass, then, after}
 use Rattle.language.specs.declared.house.Enquiry.{Enquiry}
-use Rattle.language.specs.declared.house.Enquiry.TheVariants.{Active, Stopped, Failed, Passive}
+use Rattle.language.specs.declared.house.Enquiry.TheVariants.{Passive}
 
 abbrev pub enquiry_size : Enquiry → ℕ
-enquiry_size Active = 1
-enquiry_size Stopped = 1
-enquiry_size Failed = 1
 enquiry_size Passive = 2
+enquiry_size _ = 1
 
 abbrev pub term_size : Term → ℕ
 term_size (number ds) = 1
@@ -26,15 +24,8 @@ act_size (choose e s t) = term_size e + act_size s + act_size t + 2
 act_size (when e s) = term_size e + act_size s + 1
 act_size pass = 0
 act_size (then s t) = act_size s + act_size t
-act_size (go s) = 1
-act_size (start p) = 1
-act_size (stop p) = 1
-act_size next = 1
-act_size restart = 1
-act_size halt = 1
-act_size fail = 1
-act_size reset = 1
 act_size (after ds s) = act_size s + 2
+act_size _ = 1
 
 -- A size, counted up to one more than a code can have.
 abbrev pub capped : ℕ → ℕ

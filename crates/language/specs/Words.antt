@@ -64,24 +64,12 @@ process_words (es ∷ ps) rest = pos (length es) ∷ padded 16 es (process_words
 abbrev pub kind_number : List Line → ℤ
 kind_number [] = pos 0
 kind_number (Line.kind k ∷ ls) = k
-kind_number (Line.tact n ∷ ls) = kind_number ls
-kind_number (Line.const w n ∷ ls) = kind_number ls
-kind_number (Line.cell w ∷ ls) = kind_number ls
-kind_number (Line.input w ∷ ls) = kind_number ls
-kind_number (Line.output w ∷ ls) = kind_number ls
-kind_number (Line.process w ∷ ls) = kind_number ls
-kind_number (Line.state w b ∷ ls) = kind_number ls
+kind_number (_ ∷ ls) = kind_number ls
 
 abbrev pub period : List Line → ℤ
 period [] = pos 0
-period (Line.kind k ∷ ls) = period ls
 period (Line.tact n ∷ ls) = word_value n
-period (Line.const w n ∷ ls) = period ls
-period (Line.cell w ∷ ls) = period ls
-period (Line.input w ∷ ls) = period ls
-period (Line.output w ∷ ls) = period ls
-period (Line.process w ∷ ls) = period ls
-period (Line.state w b ∷ ls) = period ls
+period (_ ∷ ls) = period ls
 
 -- The words of a text's lines.
 unfoldable pub words : List Line → List ℤ

@@ -77,9 +77,8 @@ pub fn count_at(rows: &[Row], at: usize) -> usize
     ensures { result ≡ count_at rows.now at }
 {
     match row_at(rows, at) {
-        Row::Word(_) => 0,
-        Row::Number(_) => 0,
         Row::Items(k, _) => k,
+        _ => 0,
     }
 }
 
@@ -89,8 +88,7 @@ pub fn word_at<'a>(rows: &[Row<'a>], at: usize) -> &'a [u8]
 {
     match row_at(rows, at) {
         Row::Word(w) => w,
-        Row::Number(_) => &[],
-        Row::Items(_, _) => &[],
+        _ => &[],
     }
 }
 
@@ -100,8 +98,7 @@ pub fn digits_at<'a>(rows: &[Row<'a>], at: usize) -> &'a [u8]
 {
     match row_at(rows, at) {
         Row::Number(w) => w,
-        Row::Word(_) => &[],
-        Row::Items(_, _) => &[],
+        _ => &[],
     }
 }
 
@@ -111,8 +108,7 @@ pub fn house_at(rows: &[Row], at: usize) -> Option<House>
 {
     match row_at(rows, at) {
         Row::Word(w) => house_word(w),
-        Row::Number(_) => None,
-        Row::Items(_, _) => None,
+        _ => None,
     }
 }
 
@@ -120,12 +116,9 @@ pub fn house_at(rows: &[Row], at: usize) -> Option<House>
 pub fn opener_at(rows: &[Row], at: usize) -> Option<Opener>
     ensures { result ≡ opener_at rows.now at }
 {
-    match house_at(rows, inner_row(rows, at)) {
-        Some(House::Opens(opener)) => Some(opener),
-        Some(House::Expression(_)) => None,
-        Some(House::Statement(_)) => None,
-        Some(House::KindName(_)) => None,
-        None => None,
+    match house_at(rows, inner_row(rows, at))? {
+        House::Opens(opener) => Some(opener),
+        _ => None,
     }
 }
 
@@ -153,10 +146,7 @@ pub fn term_view(rows: &[Row], at: usize) -> TermView
         Row::Number(_) => TermView::Number,
         Row::Items(_, _) => match house_at(rows, inner_row(rows, at)) {
             Some(House::Expression(head)) => head_view(rows, at, head),
-            Some(House::Opens(_)) => TermView::Odd,
-            Some(House::Statement(_)) => TermView::Odd,
-            Some(House::KindName(_)) => TermView::Odd,
-            None => TermView::Odd,
+            _ => TermView::Odd,
         },
     }
 }
@@ -170,22 +160,16 @@ fn statement_view(rows: &[Row], at: usize, head: ActHead) -> ActView
     let b = third_row(rows, at);
     match head {
         ActHead::Put => ActView::Put(a, b),
-        ActHead::If => if k == 3 {
-            ActView::When(a, b)
-        } else {
-            ActView::Choose(a, b, fourth_row(rows, at))
-        },
+        ActHead::If if k == 3 => ActView::When(a, b),
+        ActHead::If => ActView::Choose(a, b, fourth_row(rows, at)),
         ActHead::Do => ActView::Do(a, k.saturating_sub(1)),
         ActHead::After => ActView::After(a, b),
         ActHead::Go => ActView::Set(Change::Go(a)),
         ActHead::Next => ActView::Set(Change::Next),
         ActHead::Start => ActView::Set(Change::Start(a)),
         ActHead::Restart => ActView::Set(Change::Restart),
-        ActHead::Stop => if k == 1 {
-            ActView::Set(Change::Halt)
-        } else {
-            ActView::Set(Change::Stop(a))
-        },
+        ActHead::Stop if k == 1 => ActView::Set(Change::Halt),
+        ActHead::Stop => ActView::Set(Change::Stop(a)),
         ActHead::Fail => ActView::Set(Change::Fail),
         ActHead::Reset => ActView::Set(Change::Reset),
     }
@@ -197,9 +181,6 @@ pub fn act_view(rows: &[Row], at: usize) -> ActView
 {
     match house_at(rows, inner_row(rows, at)) {
         Some(House::Statement(head)) => statement_view(rows, at, head),
-        Some(House::Opens(_)) => ActView::Odd,
-        Some(House::Expression(_)) => ActView::Odd,
-        Some(House::KindName(_)) => ActView::Odd,
-        None => ActView::Odd,
+        _ => ActView::Odd,
     }
 }

@@ -1,11 +1,13 @@
 // How many instructions expressions and statements on a sheet take.
 ghost use Rattle.std.specs.Prelude.{◌≡◌, ◌+◌};
-ghost use Rattle.language.specs.OnSheet.{term_at, term_of, act_at, act_of, acts_of, body_at};
+ghost use Rattle.language.specs.OnSheet.{term_at, term_of, act_at, act_of, acts_in, body_at};
 ghost use Rattle.language.specs.Sizes.{enquiry_size, term_size, act_size, capped};
 
 use language::house::Enquiry;
-use language::view::{ActView, TermView, act_view, count_at, term_view, third_row};
-use text::row::{Row, next_row};
+use language::line::body_at;
+use language::view::{ActView, TermView, act_view, term_view};
+use text::items::Items;
+use text::row::Row;
 
 // One instruction more than a code can have: counts go no further.
 const PAST: usize = 4097;
@@ -25,9 +27,7 @@ fn enquiry_size(enquiry: Enquiry) -> usize
     ensures { result ≡ enquiry_size enquiry }
 {
     match enquiry {
-        Enquiry::Active => 1,
-        Enquiry::Stopped => 1,
-        Enquiry::Failed => 1,
+        Enquiry::Active | Enquiry::Stopped | Enquiry::Failed => 1,
         Enquiry::Passive => 2,
     }
 }
@@ -38,14 +38,14 @@ fn term_view_size(rows: &[Row], at: usize, view: TermView, left: usize) -> usize
     ensures { result ≡ capped (term_size (term_of rows.now at (term_at left rows.now) view)) }
 {
     match view {
-        TermView::Number => 1,
-        TermView::Name => 1,
+        TermView::Number | TermView::Name | TermView::Odd => 1,
         TermView::Two(_, a, b) => plus(plus(term_size(rows, a, left), term_size(rows, b, left)), 1),
         TermView::Not(a) => plus(term_size(rows, a, left), 1),
-        TermView::And(a, b) => plus(plus(term_size(rows, a, left), term_size(rows, b, left)), 4),
-        TermView::Or(a, b) => plus(plus(term_size(rows, a, left), term_size(rows, b, left)), 4),
+        TermView::And(a, b) | TermView::Or(a, b) => plus(
+            plus(term_size(rows, a, left), term_size(rows, b, left)),
+            4,
+        ),
         TermView::Ask(enquiry, _) => enquiry_size(enquiry),
-        TermView::Odd => 1,
     }
 }
 
@@ -73,7 +73,7 @@ fn act_view_size(rows: &[Row], view: ActView, left: usize) -> usize
             let either = plus(act_size(rows, s, left), act_size(rows, t, left));
             plus(plus(term_size(rows, e, left), either), 2)
         }
-        ActView::Do(first, count) => acts_size(rows, first, count, left),
+        ActView::Do(first, count) => acts_size(Items { rows, first, count }, left),
         ActView::After(_, s) => plus(act_size(rows, s, left), 2),
         ActView::Set(_) => 1,
         ActView::Odd => 0,
@@ -92,16 +92,14 @@ pub fn act_size(rows: &[Row], at: usize, left: usize) -> usize
     }
 }
 
-// How many instructions so many statements from a row on take.
+// How many instructions statements one behind another take.
 #[cycle(act_size_act_view_size_acts_size)]
-fn acts_size(rows: &[Row], first: usize, count: usize, left: usize) -> usize
-    ensures { result ≡ capped (act_size (acts_of (act_at left rows.now) rows.now first count)) }
+fn acts_size(acts: Items, left: usize) -> usize
+    ensures { result ≡ capped (act_size (acts_in (act_at left acts.entry.rows.now) acts.entry)) }
 {
     let mut size = 0;
-    let mut at = first;
-    for _ in 0..count {
-        size = plus(size, act_size(rows, at, left));
-        at = next_row(rows, at);
+    for at in acts.iter() {
+        size = plus(size, act_size(acts.rows, at, left));
     }
     size
 }
@@ -110,10 +108,5 @@ fn acts_size(rows: &[Row], first: usize, count: usize, left: usize) -> usize
 pub fn body_size(rows: &[Row], at: usize) -> usize
     ensures { result ≡ capped (act_size (body_at rows.now at)) }
 {
-    acts_size(
-        rows,
-        third_row(rows, at),
-        count_at(rows, at).saturating_sub(2),
-        DEPTH,
-    )
+    acts_size(body_at(rows, at), DEPTH)
 }

@@ -1,60 +1,51 @@
 // The value of a number's digits.
-ghost use Rattle.std.specs.Prelude.{◌≡◌, ◌+◌, ◌-◌, ◌*◌, ◌<◌, min, drop, pos, neg_ℤ};
-ghost use Rattle.language.specs.Numbers.{digits as digits_of, short_value};
+ghost use Rattle.std.specs.Prelude.{◌≡◌, ◌+◌, ◌-◌, ◌*◌, min};
+ghost use Rattle.language.specs.Numbers.{digits as digits_of, short_value, word_value};
+ghost use Rattle.language.specs.OnSheet.{digits_at};
 ghost use Rattle.measure.specs.Narrow.{of_32_bits};
 
-// The largest number of 32 bits, and the magnitude of the lowest.
-const LARGEST: u64 = 2_147_483_647;
+use language::view::digits_at;
+use text::row::Row;
 
-const LOWEST: u64 = 2_147_483_648;
-
-// What a magnitude past both is counted as.
-const PAST: u64 = 2_147_483_649;
+// What a magnitude past 32 bits is counted as, behind either sign.
+const PAST: u32 = 2_147_483_649;
 
 // One more digit behind a number, counted up to PAST.
-fn with_digit(n: u64, digit: u8) -> u64
-    requires { n < 2147483650 }
+fn with_digit(n: u32, digit: u8) -> u32
     ensures { result ≡ min (10 * n + (digit - 48)) 2147483649 }
 {
-    (10 * n + u64::from(digit.saturating_sub(b'0'))).min(PAST)
+    n.saturating_mul(10)
+        .saturating_add(u32::from(digit.saturating_sub(b'0')))
+        .min(PAST)
 }
 
-// The number that digits are, from a place on, counted up to PAST.
-fn magnitude(digits: &[u8], from: usize) -> u64
-    ensures { result ≡ min (digits_of 0 (drop from digits.now)) 2147483649 }
+// The number that digits are, counted up to PAST.
+fn magnitude(digits: &[u8]) -> u32
+    ensures { result ≡ min (digits_of 0 digits.now) 2147483649 }
 {
-    let mut n = 0;
-    for i in from..digits.len() {
-        n = with_digit(n, digits[i]);
-    }
-    n
+    digits.iter().fold(0, |n, digit| with_digit(n, *digit))
 }
 
-// A magnitude as a number without a sign, if it has 32 bits.
-fn positive(n: u64) -> Option<i32>
-    ensures { result ≡ of_32_bits (pos n) }
+// A number, if it has 32 bits.
+fn narrow(n: i64) -> Option<i32>
+    ensures { result ≡ of_32_bits n }
 {
-    if n <= LARGEST { Some(n as i32) } else { None }
-}
-
-// A magnitude as a number behind a minus sign, if it has 32 bits.
-fn negative(n: u64) -> Option<i32>
-    ensures { result ≡ of_32_bits (neg_ℤ (pos n)) }
-{
-    if n <= LOWEST {
-        Some(-(n as i64) as i32)
-    } else {
-        None
-    }
+    i32::try_from(n).ok()
 }
 
 // The value of a number's digits behind a sign or none, if it has 32 bits.
 pub fn value(digits: &[u8]) -> Option<i32>
     ensures { result ≡ short_value digits.now }
 {
-    if digits.len() > 0 && digits[0] == b'-' {
-        negative(magnitude(digits, 1))
-    } else {
-        positive(magnitude(digits, 0))
+    match digits {
+        [b'-', digits @ ..] => narrow(-i64::from(magnitude(digits))),
+        _ => narrow(i64::from(magnitude(digits))),
     }
+}
+
+// The number at a row as a word of 32 bits; one that has more counts as 0.
+pub fn number_at(rows: &[Row], at: usize) -> i32
+    ensures { result ≡ word_value (digits_at rows.now at) }
+{
+    value(digits_at(rows, at)).unwrap_or(0)
 }

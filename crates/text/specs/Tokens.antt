@@ -2,7 +2,7 @@
 use Rattle.std.specs.Prelude.{ℕ, ◌+◌, ◌-◌, cond, List, [], ◌∷◌, ◌++◌, length, nat_lt}
 use Rattle.text.specs.Bytes.{class_of, grows, complete}
 use Rattle.text.specs.declared.class.Class.{Class}
-use Rattle.text.specs.declared.class.Class.TheVariants.{Open, Close, Space, Feed, Minus, Digit, Letter, Other}
+use Rattle.text.specs.declared.class.Class.TheVariants.{Open, Close, Space, Feed, Minus, Digit, Letter}
 
 -- a left or right bracket, a word or a number
 pub data Tok : Type 0 where
@@ -45,46 +45,26 @@ opening k n = cond (nat_lt k 12) (says left (goes (spot want (k + 1) n))) (goes 
 -- at a line's start: only an opening bracket
 abbrev pub at_line : ℕ → ℕ → Class → Out
 at_line k n Open = opening k n
-at_line k n Close = goes (halt n)
-at_line k n Space = goes (halt n)
-at_line k n Feed = goes (halt n)
-at_line k n Minus = goes (halt n)
-at_line k n Digit = goes (halt n)
-at_line k n Letter = goes (halt n)
-at_line k n Other = goes (halt n)
+at_line k n _ = goes (halt n)
 
 -- where an item is due: a form, a number or a word begins
 abbrev pub at_want : ℕ → ℕ → ℕ → Class → Out
 at_want k n b Open = opening k n
-at_want k n b Close = goes (halt n)
-at_want k n b Space = goes (halt n)
-at_want k n b Feed = goes (halt n)
 at_want k n b Minus = goes (spot (in_number (b ∷ [])) k n)
 at_want k n b Digit = goes (spot (in_number (b ∷ [])) k n)
 at_want k n b Letter = goes (spot (in_word (b ∷ [])) k n)
-at_want k n b Other = goes (halt n)
+at_want k n b _ = goes (halt n)
 
 -- behind an item: one space before the next, or the form's end
 abbrev pub at_after : ℕ → ℕ → Class → Out
-at_after k n Open = goes (halt n)
 at_after k n Close = says right (goes (cond (nat_lt 1 k) (spot after (k - 1) n) (spot ended 0 n)))
 at_after k n Space = goes (spot want k n)
-at_after k n Feed = goes (halt n)
-at_after k n Minus = goes (halt n)
-at_after k n Digit = goes (halt n)
-at_after k n Letter = goes (halt n)
-at_after k n Other = goes (halt n)
+at_after k n _ = goes (halt n)
 
 -- behind a line's form: only a line feed
 abbrev pub at_ended : ℕ → ℕ → Class → Out
-at_ended k n Open = goes (halt n)
-at_ended k n Close = goes (halt n)
-at_ended k n Space = goes (halt n)
 at_ended k n Feed = goes (spot line k (n + 1))
-at_ended k n Minus = goes (halt n)
-at_ended k n Digit = goes (halt n)
-at_ended k n Letter = goes (halt n)
-at_ended k n Other = goes (halt n)
+at_ended k n _ = goes (halt n)
 
 -- a letter or a digit more in a word, of at most twelve
 abbrev pub longer : ℕ → ℕ → List ℕ → ℕ → Out
@@ -92,14 +72,9 @@ longer k n w b = goes (cond (nat_lt (length w) 12) (spot (in_word (w ++ b ∷ []
 
 -- in a word: it grows, or it ends before the byte
 abbrev pub at_word : ℕ → ℕ → List ℕ → ℕ → Class → Out
-at_word k n w b Open = says (name w) (at_after k n Open)
-at_word k n w b Close = says (name w) (at_after k n Close)
-at_word k n w b Space = says (name w) (at_after k n Space)
-at_word k n w b Feed = says (name w) (at_after k n Feed)
-at_word k n w b Minus = says (name w) (at_after k n Minus)
 at_word k n w b Digit = longer k n w b
 at_word k n w b Letter = longer k n w b
-at_word k n w b Other = says (name w) (at_after k n Other)
+at_word k n w b c = says (name w) (at_after k n c)
 
 -- a digit more in a number, where it may follow
 abbrev pub digits : ℕ → ℕ → List ℕ → ℕ → Out
@@ -111,14 +86,8 @@ counted k n w c = cond (complete w) (says (numeral w) (at_after k n c)) (goes (h
 
 -- in a number: it grows, or it ends before the byte
 abbrev pub at_number : ℕ → ℕ → List ℕ → ℕ → Class → Out
-at_number k n w b Open = counted k n w Open
-at_number k n w b Close = counted k n w Close
-at_number k n w b Space = counted k n w Space
-at_number k n w b Feed = counted k n w Feed
-at_number k n w b Minus = counted k n w Minus
 at_number k n w b Digit = digits k n w b
-at_number k n w b Letter = counted k n w Letter
-at_number k n w b Other = counted k n w Other
+at_number k n w b c = counted k n w c
 
 -- what the byte b of class c gives, by the mode, with k brackets open, in line n
 abbrev pub lex : Mode → ℕ → ℕ → ℕ → Class → Out

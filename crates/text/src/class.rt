@@ -36,7 +36,8 @@ pub(crate) fn may_grow(number: &[u8], b: u8) -> bool
     ensures { result ≡ grows number.now b }
 {
     match number {
-        [x] => *x != b'0' && !(*x == b'-' && b == b'0'),
+        [b'0'] => false,
+        [b'-'] => b != b'0',
         _ => true,
     }
 }
@@ -45,9 +46,5 @@ pub(crate) fn may_grow(number: &[u8], b: u8) -> bool
 pub(crate) fn is_number(number: &[u8]) -> bool
     ensures { result ≡ complete number.now }
 {
-    match number {
-        [] => false,
-        [x] => *x != b'-',
-        _ => true,
-    }
+    !matches!(number, [] | [b'-'])
 }

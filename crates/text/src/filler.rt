@@ -7,6 +7,7 @@ use crate::row::Row;
 
 // How far a sheet is filled: the rows that the items so far want, and, while the sheet has them, the row of the innermost
 // open form and the number of its items, or of the lines' forms where none is open.
+// The sheet is lent to each method, and no field: of a `&mut` in a struct, to elements that hold a reference, what it leaves behind is not proved.
 #[derive(Drop)]
 pub(crate) struct Filler {
     pub(crate) used: usize,

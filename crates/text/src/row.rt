@@ -14,10 +14,7 @@ pub enum Row<'a> {
 pub fn row_at<'a>(rows: &[Row<'a>], at: usize) -> Row<'a>
     ensures { result ≡ row_at rows.now at }
 {
-    match rows.get(at) {
-        Some(row) => *row,
-        None => Row::Items(0, 0),
-    }
+    rows.get(at).copied().unwrap_or(Row::Items(0, 0))
 }
 
 // How many rows behind a row its items take.
@@ -25,8 +22,7 @@ fn rows_behind(row: Row) -> usize
     ensures { result ≡ span row.entry }
 {
     match row {
-        Row::Word(_) => 0,
-        Row::Number(_) => 0,
+        Row::Word(_) | Row::Number(_) => 0,
         Row::Items(_, rows) => rows,
     }
 }

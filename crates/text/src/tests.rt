@@ -1,7 +1,6 @@
 // Texts that are read, and texts that are not.
-use crate::read::{ReadRefusal, read};
+use crate::read::{Page, ReadRefusal, read};
 use crate::row::Row;
-use std::test::Fail;
 
 // The line that is told of a text, or 0.
 fn told_line(text: &[u8]) -> usize {
@@ -13,19 +12,13 @@ fn told_line(text: &[u8]) -> usize {
 }
 
 #[test]
-fn reads(rt: HostRuntime) -> Result<(), Fail> {
+fn reads(rt: HostRuntime) {
     let mut sheet = [Row::Items(0, 0); 16];
-    match read(
+    let page = read(
         b"(kind long)\n(if (not LID) (do (put RAIL 0)))\n",
         &mut sheet,
-    ) {
-        Ok(page) => {
-            assert_eq!(rt; page.rows, 14);
-            assert_eq!(rt; page.lines, 2);
-            Ok(())
-        }
-        Err(_) => Err(Fail::new("not read")),
-    }
+    );
+    assert_eq!(rt; page, Ok(Page { rows: 14, lines: 2 }));
 }
 
 #[test]

@@ -8,7 +8,6 @@ invariant-loop-left g l =
     (run g.K.Kind.ops l.seen l.p l.i l.left 0 l.steps (meaning g.K.Kind.ops l.base l.work l.t)
     ≡ run g.K.Kind.ops l.seen l.p l.first l.words 0 0 (meaning g.K.Kind.ops l.base l.initial.work l.initial.t))
     × Sound l.base l.i l.left
-    × (l.t.depth ≤ 16)
     × (l.i * 2 + length l.left ≤ 8192)
     × (l.steps * 2 + length l.left ≤ 8192)
 

@@ -1,29 +1,22 @@
-use Rattle.std.proofs.Common.{◌≡◌, ℕ, get_or, ℤ, ◌∙◌, w32, to_z, of_z}
+use Rattle.std.proofs.Common.{◌≡◌, refl, ◌<◌, ℤ, sym, ap, ◌∙◌, inl, inr, arith, w32}
+use Rattle.std.proofs.lemmas.List.{get_or_past}
 use Rattle.std.proofs.lemmas.Int.{to_z-of_z}
-use Rattle.flat.specs.declared.instr.Instr.{Instr}
-use Rattle.flat.specs.declared.instr.Instr.TheVariants.{End}
+use Rattle.std.proofs.lemmas.Bool.{cases_lt}
 use Rattle.flat.specs.Instructions.{table, decoded}
 use Rattle.flat.specs.Words.{natural}
+use Rattle.flat.specs.declared.instr.Instr.TheVariants.{End}
 use Rattle.flat.proofs.instr.decode.Goals as goal
 
--- an instruction found in the table, by a number and an operand that went through a call
-from_table :
-    (op x op' x' : ℤ) (k n : ℕ) (r : Instr)
-    → op' ≡ op
-    → x' ≡ x
-    → k ≡ natural op'
-    → n ≡ natural x'
-    → r ≡ get_or (table x' n) k End
-    → r ≡ decoded op x
+-- no number from 1 to 27: the end
+no_number : (op x : ℤ) → (natural op < 28 → natural op ≡ 0) → End ≡ decoded op x
 unfolding decoded
-from_table op x op' x' k n r a b e f h = h ∙ cc
+no_number op x only =
+    elim (cases_lt (natural op) 28) [
+      | inl within ↦ rw (only within) refl
+      | inr past ↦ sym (get_or_past (table x (natural x)) (natural op) End past)
+    ]
 
-pub returns-then-number-lt15 : goal.returns-then-number-lt15
-returns-then-number-lt15 c =
-    from_table c.args.op c.args.operand (to_z w32 (of_z w32 c.args.op)) (to_z w32 (of_z w32 c.args.operand)) c.as_count-number.result c.as_count-n.result c.decode_low.result
-    (to_z-of_z w32 c.args.op c.ranges.op) (to_z-of_z w32 c.args.operand c.ranges.operand) c.as_count-number.ensures c.as_count-n.ensures c.decode_low.ensures
-
-pub returns-else-number-lt15 : goal.returns-else-number-lt15
-returns-else-number-lt15 c =
-    from_table c.args.op c.args.operand (to_z w32 (of_z w32 c.args.op)) (to_z w32 (of_z w32 c.args.operand)) c.as_count-number.result c.as_count-n.result c.decode_high.result
-    (to_z-of_z w32 c.args.op c.ranges.op) (to_z-of_z w32 c.args.operand c.ranges.operand) c.as_count-number.ensures c.as_count-n.ensures c.decode_high.ensures
+pub returns-in_default : goal.returns-in_default
+returns-in_default c =
+    let same : c.as_count.result ≡ natural c.args.op = c.as_count.ensures ∙ ap natural (to_z-of_z w32 c.args.op c.ranges.op) in
+    no_number c.args.op c.args.operand (λ within. omega arith)

@@ -1,13 +1,15 @@
--- The first group of house words that has the word.
-use Rattle.std.proofs.Common.{◌∙◌}
-use Rattle.language.specs.House.{house, line_word, body_word}
-use Rattle.language.proofs.Ways.{first_way, second_way}
+use Rattle.std.proofs.Common.{◌≡◌, ◌∙◌, map, refl, ap, rules, tests}
+use Rattle.std.specs.List.{find}
+use Rattle.std.specs.Option.{option_map}
+use Rattle.std.proofs.lemmas.Iterator.{YieldsList-from_slice}
+use Rattle.std.proofs.lemmas.Iterator.Search.{find_from_yields_List}
+use Rattle.language.specs.Basics.{same}
+use Rattle.language.proofs.Table.{row, all_words, looked_up}
 use Rattle.language.proofs.house.house_word.Goals as goal
 
-pub returns-in-Some : goal.returns-in-Some
-unfolding house
-returns-in-Some c = first_way (line_word c.args.w.now) (body_word c.args.w.now) c.in-Some.ensures
-
-pub returns-in-None : goal.returns-in-None
-unfolding house
-returns-in-None c = c.body_word.ensures ∙ second_way (line_word c.args.w.now) (body_word c.args.w.now) c.in-None.ensures
+pub returns : goal.returns
+returns c =
+    let e : option_map (λ r. r.now) c.find.result ≡ find (λ r. same r.0.now c.args.w.now) c.iter.result.rest.now = find_from_yields_List (λ r. same r.0.now c.args.w.now) _ _ c.find.result c.find.ensures.ran (YieldsList-from_slice _ refl) (λ x b q k. search (rules, tests)) in
+    let m : c.map.result ≡ option_map (λ r. r.1) (option_map (λ r. r.now) c.find.result) = search rules in
+    let t : map row c.iter.result.rest.now ≡ all_words = ap (map row) c.iter.ensures.rest in
+    m ∙ ap (option_map (λ r. r.1)) e ∙ looked_up _ c.args.w.now t

@@ -5,5 +5,5 @@ use Rattle.text.proofs.reader.Reader.next.Goals as goal
 pub returns-in-Between-Line : goal.returns-in-Between-Line
 returns-in-Between-Line c = let h = at_end c.loop-self.self (omega arith) in search rules
 
-pub returns-in_default : goal.returns-in_default
-returns-in_default c = let h = at_end c.loop-self.self (omega arith) in search rules
+pub returns-in_default-2 : goal.returns-in_default-2
+returns-in_default-2 c = let h = at_end c.loop-self.self (omega arith) in search rules
