@@ -50,11 +50,8 @@ fn kind_named(rows: &[Row], at: usize) -> i32
     ensures { result ≡ otherwise (pos 0) (and_then (house_at rows.now at) kind_named) }
 {
     match house_at(rows, at) {
-        Some(House::KindName(kind)) => kind,
-        Some(House::Opens(_)) => 0,
-        Some(House::Expression(_)) => 0,
-        Some(House::Statement(_)) => 0,
-        None => 0,
+        Some(House::KindName(kind)) => i32::from(kind),
+        _ => 0,
     }
 }
 
