@@ -13,19 +13,16 @@ ghost use Rattle.translator.specs.Writing.{names_at, thing_source, source_operan
 use flat::instr::{Instr, Source};
 use language::house::Opener;
 use language::names::{Target, Thing};
-use language::view::{digits_at, word_at};
+use language::view::word_at;
 use lookup::{find_name, target_named, thing_named};
-use measure::value::value;
+use text::items::Items;
 use text::row::Row;
 
 // The number at a row as a word.
 pub(crate) fn number_at(rows: &[Row], at: usize) -> i32
     ensures { result ≡ word_value (digits_at rows.now at) }
 {
-    match value(digits_at(rows, at)) {
-        Some(v) => v,
-        None => 0,
-    }
+    measure::value::number_at(rows, at)
 }
 
 // The number at a row as a count, a negative one as 0.
@@ -54,7 +51,14 @@ pub(crate) fn source_at(rows: &[Row], lines: usize, at: usize) -> Source
     ensures is { result ≡ thing_source (otherwise (Constant (pos 0)) (thing (names_at rows.now lines) (word_at rows.now at))) }
     ensures below { source_operand result ≤ lines }
 {
-    match thing_named(rows, lines, word_at(rows, at)) {
+    match thing_named(
+        Items {
+            rows,
+            first: 0,
+            count: lines,
+        },
+        word_at(rows, at),
+    ) {
         Some(thing) => thing_source(thing),
         None => Source::Lit(0),
     }
@@ -75,7 +79,14 @@ pub(crate) fn target_at(rows: &[Row], lines: usize, at: usize) -> Instr
     ensures is { result ≡ target_instr (otherwise (CellTarget 0) (target (names_at rows.now lines) (word_at rows.now at))) }
     ensures below { operand result ≤ lines }
 {
-    match target_named(rows, lines, word_at(rows, at)) {
+    match target_named(
+        Items {
+            rows,
+            first: 0,
+            count: lines,
+        },
+        word_at(rows, at),
+    ) {
         Some(target) => target_instr(target),
         None => Instr::Keep(0),
     }
@@ -86,7 +97,15 @@ pub(crate) fn process_at(rows: &[Row], lines: usize, at: usize) -> usize
     ensures is { result ≡ process (names_at rows.now lines) (word_at rows.now at) }
     ensures below { result ≤ lines }
 {
-    match find_name(rows, 0, lines, Opener::Proc, word_at(rows, at)) {
+    match find_name(
+        Items {
+            rows,
+            first: 0,
+            count: lines,
+        },
+        Opener::Proc,
+        word_at(rows, at),
+    ) {
         Some(n) => n,
         None => 0,
     }
@@ -97,7 +116,15 @@ pub(crate) fn state_at(rows: &[Row], first: usize, states: usize, at: usize) -> 
     ensures is { result ≡ otherwise 0 (found (word_at rows.now at) (declared State (lines_at rows.now first states))) }
     ensures below { result ≤ states }
 {
-    match find_name(rows, first, states, Opener::State, word_at(rows, at)) {
+    match find_name(
+        Items {
+            rows,
+            first,
+            count: states,
+        },
+        Opener::State,
+        word_at(rows, at),
+    ) {
         Some(n) => n,
         None => 0,
     }
