@@ -1,5 +1,6 @@
 -- Which items each form takes, as a machine that takes one item after another.
-use Rattle.std.specs.Prelude.{Bool, cond, Some, None}
+use Rattle.std.specs.Prelude.{Bool, cond, List, [], ◌∷◌, Some, None, Option}
+use Rattle.language.specs.Basics.{and_then}
 use Rattle.language.specs.declared.house.House.TheVariants as house_word
 use Rattle.language.specs.declared.house.Opener.{Opener}
 use Rattle.language.specs.declared.house.Opener.TheVariants as opener
@@ -15,18 +16,14 @@ use Rattle.shape.specs.declared.pattern.Expect.TheVariants.{FormWord, LineWord, 
 use Rattle.shape.specs.Sorts.{is_word, is_kind, is_number, is_term, is_act, is_timeout}
 
 abbrev pub taking : Expect → Expect → Expect → Sort → Pattern
-taking a b c s = record { first = a; second = b; third = c; whole = s }
-
--- A form that is nothing, whatever comes.
-abbrev pub refused : Pattern
-refused = taking Nothing Nothing Nothing sorts.Bad
+taking a b c s = record { first = a; second = b; third = c; whole = Some s }
 
 -- Any expression or statement, and any line.
 abbrev pub form_start : Pattern
-form_start = taking FormWord Nothing Nothing sorts.Bad
+form_start = record { first = FormWord; second = Nothing; third = Nothing; whole = None }
 
 abbrev pub line_start : Pattern
-line_start = taking LineWord Nothing Nothing sorts.Bad
+line_start = record { first = LineWord; second = Nothing; third = Nothing; whole = None }
 
 -- The items of each expression.
 abbrev pub term_pattern : TermHead → Pattern
@@ -62,45 +59,28 @@ line_pattern opener.Proc = taking Word Nothing Nothing (sorts.Line opener.Proc)
 line_pattern opener.State = taking Word Body Nothing (sorts.Line opener.State)
 
 -- The items that follow a first one.
-abbrev pub head_pattern : Sort → Pattern
-head_pattern (sorts.Word None) = refused
-head_pattern (sorts.Word (Some (house_word.Opens o))) = refused
-head_pattern (sorts.Word (Some (house_word.Expression h))) = term_pattern h
-head_pattern (sorts.Word (Some (house_word.Statement h))) = act_pattern h
-head_pattern (sorts.Word (Some (house_word.KindName k))) = refused
-head_pattern sorts.Number = refused
-head_pattern sorts.Term = refused
-head_pattern sorts.Act = refused
-head_pattern sorts.Timeout = refused
-head_pattern (sorts.Line o) = refused
-head_pattern sorts.Bad = refused
+abbrev pub head_pattern : Sort → Option Pattern
+head_pattern (sorts.Word (Some (house_word.Expression h))) = Some (term_pattern h)
+head_pattern (sorts.Word (Some (house_word.Statement h))) = Some (act_pattern h)
+head_pattern _ = None
 
-abbrev pub opener_pattern : Sort → Pattern
-opener_pattern (sorts.Word None) = refused
-opener_pattern (sorts.Word (Some (house_word.Opens o))) = line_pattern o
-opener_pattern (sorts.Word (Some (house_word.Expression h))) = refused
-opener_pattern (sorts.Word (Some (house_word.Statement h))) = refused
-opener_pattern (sorts.Word (Some (house_word.KindName k))) = refused
-opener_pattern sorts.Number = refused
-opener_pattern sorts.Term = refused
-opener_pattern sorts.Act = refused
-opener_pattern sorts.Timeout = refused
-opener_pattern (sorts.Line o) = refused
-opener_pattern sorts.Bad = refused
+abbrev pub opener_pattern : Sort → Option Pattern
+opener_pattern (sorts.Word (Some (house_word.Opens o))) = Some (line_pattern o)
+opener_pattern _ = None
 
 -- What is left behind one item, if it was the one to come.
-abbrev pub moved : Bool → Pattern → Pattern
-moved fits p = cond fits (taking p.second p.third Nothing p.whole) refused
+abbrev pub moved : Bool → Pattern → Option Pattern
+moved fits p = cond fits (Some (record { first = p.second; second = p.third; third = Nothing; whole = p.whole })) None
 
 -- The same again, if the item was one of those to come.
-abbrev pub kept : Bool → Pattern → Pattern
-kept fits p = cond fits p refused
+abbrev pub kept : Bool → Pattern → Option Pattern
+kept fits p = cond fits (Some p) None
 
 -- What may still come behind an item, by what was to come.
-abbrev pub step : Expect → Pattern → Sort → Pattern
+abbrev pub step : Expect → Pattern → Sort → Option Pattern
 step FormWord p s = head_pattern s
 step LineWord p s = opener_pattern s
-step Nothing p s = refused
+step Nothing p s = None
 step Word p s = moved (is_word s) p
 step KindName p s = moved (is_kind s) p
 step Number p s = moved (is_number s) p
@@ -109,25 +89,24 @@ step Act p s = moved (is_act s) p
 step MaybeWord p s = moved (is_word s) p
 step MaybeAct p s = moved (is_act s) p
 step Acts p s = kept (is_act s) p
-step Body p s = cond (is_act s) p (moved (is_timeout s) p)
+step Body p s = cond (is_act s) (Some p) (moved (is_timeout s) p)
 
-abbrev pub after : Pattern → Sort → Pattern
+abbrev pub after : Pattern → Sort → Option Pattern
 after p s = step p.first p s
 
 -- What a form is that has no item more, by what was to come.
-abbrev pub closed : Expect → Sort → Sort
-closed FormWord s = sorts.Bad
-closed LineWord s = sorts.Bad
+abbrev pub closed : Expect → Option Sort → Option Sort
 closed Nothing s = s
-closed Word s = sorts.Bad
-closed KindName s = sorts.Bad
-closed Number s = sorts.Bad
-closed Term s = sorts.Bad
-closed Act s = sorts.Bad
 closed MaybeWord s = s
 closed MaybeAct s = s
 closed Acts s = s
 closed Body s = s
+closed _ s = None
 
-abbrev pub ended : Pattern → Sort
+abbrev pub ended : Pattern → Option Sort
 ended p = closed p.first p.whole
+
+-- What a form with these items is, each of a sort or nothing, by its pattern.
+abbrev pub whole_of : List (Option Sort) → Pattern → Option Sort
+whole_of [] p = ended p
+whole_of (o ∷ os) p = and_then o (λ s. and_then (after p s) (whole_of os))

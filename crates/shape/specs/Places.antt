@@ -1,26 +1,25 @@
--- Where a line may stand, told from what the lines before it leave.
-use Rattle.std.specs.Prelude.{Bool, false, cond, not, ◌||◌, Some, None, Option, ◌==◌, nat_le, nat_lt}
+-- Where a line may stand, told from the sorts of the lines before it.
+use Rattle.std.specs.Prelude.{ℕ, Bool, false, cond, Some, None, Option, nat_le, nat_lt}
 use Rattle.language.specs.Lines.{rank}
 use Rattle.language.specs.declared.house.Opener.{Opener}
 use Rattle.language.specs.declared.house.Opener.TheVariants.{Kind, Tact, Const, Cell, In, Out, Proc, State}
-use Rattle.shape.specs.declared.order.Place.{Place}
 
--- A line may not stand here.
-abbrev pub misplaced : Place → Opener → Bool
-misplaced p Kind = nat_le 1 p.highest
-misplaced p Tact = nat_le 2 p.highest
-misplaced p Const = nat_lt 3 p.highest
-misplaced p Cell = nat_lt 4 p.highest
-misplaced p In = nat_lt 5 p.highest
-misplaced p Out = nat_lt 6 p.highest
+-- The rank of the last sort of some lines, and 0 where there is no line.
+abbrev pub height : Option Opener → ℕ
+height None = 0
+height (Some o) = rank o
+
+-- A line may not stand behind lines with this last sort.
+abbrev pub misplaced : Option Opener → Opener → Bool
+misplaced p Kind = nat_le 1 (height p)
+misplaced p Tact = nat_le 2 (height p)
+misplaced p Const = nat_lt 3 (height p)
+misplaced p Cell = nat_lt 4 (height p)
+misplaced p In = nat_lt 5 (height p)
+misplaced p Out = nat_lt 6 (height p)
 misplaced p Proc = false
-misplaced p State = not p.process
+misplaced p State = nat_lt (height p) 7
 
--- The place behind a line.
-abbrev pub behind_line : Place → Opener → Place
-behind_line p o = record { highest = cond (nat_lt p.highest (rank o)) (rank o) p.highest; process = rank Proc == rank o || p.process }
-
--- The place behind a line that fits here.
-abbrev pub next_place : Place → Option Opener → Option Place
-next_place p None = None
-next_place p (Some o) = cond (misplaced p o) None (Some (behind_line p o))
+-- The last sort of some lines and one more.
+abbrev pub later : Option Opener → Opener → Option Opener
+later p o = cond (nat_lt (height p) (rank o)) (Some o) p

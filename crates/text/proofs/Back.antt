@@ -278,11 +278,8 @@ module _ (t : List ℕ) where
   -- the text's end
   stops : (o : List (List Form)) (d : List Form) (m : Mode) (n : ℕ) → Reached t o d m n [] → Came t n (parse o d (last m n))
   stops o d line n r = (r.1.valid, r.1.text)
-  stops o d want n r = stuck r.1
-  stops o d after n r = stuck r.1
   stops o d ended n r = stuck r.1.so_far
-  stops o d (in_word w) n r = stuck r.1
-  stops o d (in_number w) n r = stuck r.1
+  stops o d _ n r = stuck r.1
 
   -- the whole rest of the text
   came : (bs : List ℕ) (o : List (List Form)) (d : List Form) (m : Mode) (n : ℕ) → Reached t o d m n bs → Sane o → Came t n (parse o d (toks (spot m (length o) n) bs))

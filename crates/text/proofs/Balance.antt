@@ -54,11 +54,7 @@ module _ (bs : List ℕ) (ih : (m : Mode) (k n : ℕ) → Level m k → Balanced
 -- at the text's end
 at_last : (m : Mode) (k n : ℕ) → Level m k → Balanced k (last m n)
 at_last line k n h = h
-at_last want k n h = tt
-at_last after k n h = tt
-at_last ended k n h = tt
-at_last (in_word w) k n h = tt
-at_last (in_number w) k n h = tt
+at_last _ k n h = tt
 
 balances : (bs : List ℕ) (m : Mode) (k n : ℕ) → Level m k → Balanced k (toks (spot m k n) bs)
 balances [] m k n h = at_last m k n h
@@ -98,11 +94,7 @@ total_prefix (x ∷ xs) ts = omega (arith, total_prefix xs ts)
 
 total_last : (m : Mode) (n : ℕ) → total (last m n) ≡ 0
 total_last line n = refl
-total_last want n = refl
-total_last after n = refl
-total_last ended n = refl
-total_last (in_word w) n = refl
-total_last (in_number w) n = refl
+total_last _ n = refl
 
 -- so a text has at most twice as many as bytes
 pub total_few : (s : Spot) (bs : List ℕ) → total (toks s bs) ≤ 2 * length bs

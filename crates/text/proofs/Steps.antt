@@ -1,16 +1,14 @@
 -- One move of the reader, and the tokens from there on.
-use Rattle.std.proofs.Common.{◌≡◌, ℕ, ◌+◌, ◌<◌, ◌≤◌, true, false, ◌⊎◌, List, length, drop, Some, None, Option, Ok, Err, Result, sym, refl, ap, ◌∙◌, inl, inr, ⊎_elim, arith}
-use Rattle.std.proofs.lemmas.List.{drop_more, drop_all}
+use Rattle.std.proofs.Common.{◌≡◌, ℕ, ◌+◌, ◌<◌, true, false, ◌⊎◌, cond, ltb, List, [], ◌∷◌, ◌++◌, length, drop, Some, None, Option, Ok, Err, Result, sym, refl, ap, ◌∙◌, inl, inr, ⊎_elim, arith}
+use Rattle.std.proofs.lemmas.List.{drop_more}
 use Rattle.text.specs.Bytes.{class_of, complete}
-use Rattle.text.specs.Tokens.{after, spot, name, numeral, Tok, tok, end, bad, last, toks, lex, at_after}
-use Rattle.text.specs.Machine.{spot_of, mode_by, part_of, byte, ahead, out_of, told, Moved, item_ends}
+use Rattle.text.specs.Tokens.{after, spot, halt, name, numeral, Tok, Toks, tok, toks, Out, goes, lex, at_after, at_word}
+use Rattle.text.specs.Machine.{spot_of, mode_by, part_of, byte, ahead, out_of, told, Moved, item_grows, item_ends}
 use Rattle.text.specs.declared.reader.Reader.{Reader}
 use Rattle.text.specs.declared.reader.Item.{Item}
 use Rattle.text.specs.declared.reader.NoForm.{NoForm}
-use Rattle.text.specs.declared.reader.Gap.{Gap}
-use Rattle.text.specs.declared.reader.Gap.TheVariants.{Line}
 use Rattle.text.specs.declared.reader.State.{State}
-use Rattle.text.specs.declared.reader.State.TheVariants.{Between, Word, Number}
+use Rattle.text.specs.declared.reader.State.TheVariants.{Word, Number}
 use Rattle.text.specs.declared.class.Class.{Class}
 use Rattle.text.specs.declared.class.Class.TheVariants.{Digit, Letter}
 use Rattle.text.proofs.Ways.{out, word_ways, number_ways}
@@ -21,14 +19,16 @@ told_by (Ok None) t bs = refl
 told_by (Ok (Some i)) t bs = refl
 told_by (Err e) t bs = refl
 
--- the end of an item takes no byte: the tokens of what it says, from there on
-stays : (s t : Reader) (r : Result (Option Item) NoForm) (k : Tok) → Moved s t r (item_ends k) 0 → tok k (toks (spot after s.depth s.line) (drop s.at s.text.now)) ≡ told r (ahead t)
-stays s t r k m =
-    let e : s.at ≡ s.at + 0 = omega arith in
-    ap (λ j. out (item_ends k s) (drop j s.text.now)) e
-    ∙ ap (λ x. out x (drop (s.at + 0) s.text.now)) (sym m.says)
-    ∙ told_by r t (drop (s.at + 0) s.text.now)
+-- a move that takes k bytes: the tokens of what it says, from there on
+moves : (s t : Reader) (r : Result (Option Item) NoForm) (o : Reader → Out) (k : ℕ) → Moved s t r o k → out (o s) (drop (s.at + k) s.text.now) ≡ told r (ahead t)
+moves s t r o k m =
+    ap (λ x. out x (drop (s.at + k) s.text.now)) (sym m.says)
+    ∙ told_by r t (drop (s.at + k) s.text.now)
     ∙ ap (λ x. told r (toks (spot_of t) x)) (λ i. drop (sym m.on i) (sym m.text i).now)
+
+-- the end of an item takes none
+stays : (s t : Reader) (r : Result (Option Item) NoForm) (k : Tok) → Moved s t r (item_ends k) 0 → tok k (toks (spot after s.depth s.line) (drop s.at s.text.now)) ≡ told r (ahead t)
+stays s t r k m = let e : s.at ≡ s.at + 0 = omega arith in ap (λ j. out (item_ends k s) (drop j s.text.now)) e ∙ moves s t r (item_ends k) 0 m
 
 module _ (s : Reader) (x : State) (c : Class) (h : s.at < length s.text.now) (is : s.state ≡ x) (class : c ≡ class_of (byte s)) where
   -- what is left behind the next byte
@@ -46,6 +46,18 @@ module _ (s : Reader) (x : State) (c : Class) (h : s.at < length s.text.now) (is
   behind =
       ap (λ y. out (at_after s.depth s.line y) left_over) class
       ∙ ap (toks (spot after s.depth s.line)) (sym (drop_more s.text.now s.at 0 h))
+
+-- a word grows by a letter or a digit
+pub word_grown : (s : Reader) (c : Class) → s.at < length s.text.now → s.state ≡ Word → c ≡ class_of (byte s) → (c ≡ Letter) ⊎ (c ≡ Digit)
+    → (t : Reader) (r : Result (Option Item) NoForm) → Moved s t r (item_grows (ltb (length (part_of s)) 12)) 1 → ahead s ≡ told r (ahead t)
+word_grown s c h is class k t r m =
+    byte_gives s Word c h is class
+    ∙ ⊎_elim (λ e. ap gives e) (λ e. ap gives e) k
+    ∙ (λ i. out (goes (cond (ltb (length (part_of s)) 12) (spot (mode_by (sym is i) s.gap (part_of s ++ byte s ∷ [])) s.depth s.line) (halt s.line))) (drop (s.at + 1) s.text.now))
+    ∙ moves s t r (item_grows (ltb (length (part_of s)) 12)) 1 m
+  where
+    gives : Class → Toks
+    gives y = out (at_word s.depth s.line (part_of s) (byte s) y) (drop (s.at + 1) s.text.now)
 
 -- a word ends before a byte of another class
 pub word_held : (s : Reader) (c : Class) → s.at < length s.text.now → s.state ≡ Word → c ≡ class_of (byte s) → (t : Reader) (r : Result (Option Item) NoForm) → Moved s t r (item_ends (name (part_of s))) 0
@@ -69,14 +81,3 @@ number_held s c h is class whole t r m =
 
     no_true : complete (part_of s) ≡ false → ⊥
     no_true p = cc
-
--- at the text's end
-pub at_end : (s : Reader) → length s.text.now ≤ s.at → ((s.state ≡ Between) × (s.gap ≡ Line) × (ahead s ≡ end)) ⊎ ((s.state ≡ Between → s.gap ≡ Line → ⊥) × (ahead s ≡ bad s.line))
-at_end s h = by s.state s.gap refl refl
-  where
-    at : {x : State} {g : Gap} → s.state ≡ x → s.gap ≡ g → ahead s ≡ last (mode_by x g (part_of s)) s.line
-    at e f = ap (toks (spot_of s)) (drop_all s.at s.text.now h) ∙ (λ i. last (mode_by (e i) (f i) (part_of s)) s.line)
-
-    by : (x : State) (g : Gap) → s.state ≡ x → s.gap ≡ g → ((s.state ≡ Between) × (s.gap ≡ Line) × (ahead s ≡ end)) ⊎ ((s.state ≡ Between → s.gap ≡ Line → ⊥) × (ahead s ≡ bad s.line))
-    by Between Line e f = inl (e, f, at e f)
-    by x g e f = inr (λ p q. let z : ◌≡◌ {A = ℕ} 0 1 = cc in omega arith, at e f)

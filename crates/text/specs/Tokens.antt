@@ -101,11 +101,7 @@ lex (in_number w) k n b c = at_number k n w b c
 -- at the text's end: it may end only at a line's start
 abbrev pub last : Mode → ℕ → Toks
 last line n = end
-last want n = bad n
-last after n = bad n
-last ended n = bad n
-last (in_word w) n = bad n
-last (in_number w) n = bad n
+last _ n = bad n
 
 -- tokens before others
 abbrev pub prefix : List Tok → Toks → Toks

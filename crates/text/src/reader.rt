@@ -79,7 +79,8 @@ impl<'a> Reader<'a> {
         }
     }
 
-    // A byte of class c between items. That a byte is left is asked in three methods and is no invariant: at the end of the text it is false.
+    // A byte of class c between items.
+    // That a byte is left is asked in three methods, and is no ghost field: at the end of the text it is false.
     fn between(&mut self, c: Class) -> Result<Option<Item<'a>>, NoForm>
         requires more { self.old.at < length self.old.text.now }
         requires between { self.old.state ≡ State.Between }

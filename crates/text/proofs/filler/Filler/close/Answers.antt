@@ -3,12 +3,6 @@ use Rattle.text.proofs.Pieces.{take_set_in, in_front}
 use Rattle.text.specs.declared.row.Row.TheVariants.{Items}
 use Rattle.text.proofs.filler.Filler.close.Goals as goal
 
-pub returns-in_default : goal.returns-in_default
-returns-in_default c = record {
-  used = refl;
-  puts = λ h c' t d few lt e. absurd (c.in_default.not-Items c' t (in_front c.args.rows.now c.args.self.now.used c.args.self.now.top d _ lt h ∙ e));
-}
-
 pub returns-in-Items : goal.returns-in-Items
 returns-in-Items c = record {
   used = refl;
