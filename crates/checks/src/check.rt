@@ -1,8 +1,7 @@
 // Whether the lines on a sheet are well formed.
 ghost use Rattle.std.specs.Prelude.{◌≡◌, []};
 ghost use Rattle.text.specs.Items.{forms_of};
-ghost use Rattle.text.specs.Sheet.{forms_at};
-ghost use Rattle.language.specs.OnSheet.{lines_at, lines_of};
+ghost use Rattle.language.specs.OnSheet.{lines_of};
 ghost use Rattle.language.specs.Translation.{causes, name_causes, first_cause};
 ghost use Rattle.checks.specs.Refusals.{cause};
 
@@ -13,7 +12,6 @@ use naming::known::first_unknown;
 use naming::last::first_next_in_last;
 use shape::order::first_unfit;
 use text::items::Items;
-use text::row::Row;
 
 // The first thing that is wrong with names.
 fn check_names(lines: Items) -> Result<(), Refusal>
@@ -32,19 +30,14 @@ fn check_names(lines: Items) -> Result<(), Refusal>
 }
 
 // The first thing that is wrong: the smallest cause, at its first line.
-pub fn check(rows: &[Row], lines: usize) -> Result<(), Refusal>
-    ensures { cause result ≡ first_cause causes (forms_at rows.now 0 lines) (lines_at rows.now 0 lines) }
+pub fn check(lines: Items) -> Result<(), Refusal>
+    ensures { cause result ≡ first_cause causes (forms_of lines.entry) (lines_of lines.entry) }
 {
-    if let Some(n) = first_unfit(rows, lines) {
+    if let Some(n) = first_unfit(lines) {
         return Err(Refusal::Unfit(n));
     }
-    let all = Items {
-        rows,
-        first: 0,
-        count: lines,
-    };
-    if let Some(n) = first_past_limit(all) {
+    if let Some(n) = first_past_limit(lines) {
         return Err(Refusal::PastLimit(n));
     }
-    check_names(all)
+    check_names(lines)
 }

@@ -1,8 +1,7 @@
 // So many items of a sheet, one behind another, and the walk over the rows at which they begin.
-ghost use Rattle.std.specs.Prelude.{◌≡◌, ◌+◌, ◌<◌, ◌^◌, [], ◌∷◌, length, MatchOption};
+ghost use Rattle.std.specs.Prelude.{◌≡◌, ◌<◌, ◌^◌, [], length, MatchOption};
 ghost use Rattle.std.specs.Iterator.{YieldsFirst, item_count};
-ghost use Rattle.text.specs.Items.{starts_of, starts_left};
-ghost use Rattle.text.specs.Sheet.{next_row};
+ghost use Rattle.text.specs.Items.{starts_of, starts_left, IsSplit};
 
 use crate::row::{Row, next_row};
 
@@ -17,7 +16,7 @@ pub struct Items<'s, 'a> {
 impl<'s, 'a> Items<'s, 'a> {
     // The row of the first, and the items behind it.
     pub fn split_first(self) -> Option<(usize, Items<'s, 'a>)>
-        ensures { MatchOption result (starts_of self.entry ≡ []) (λ s. (starts_of self.entry ≡ s.0 ∷ starts_of s.1) × (s.1.rows.now ≡ self.entry.rows.now) × (s.1.count + 1 ≡ self.entry.count) × (s.0 ≡ self.entry.first) × (s.1.first ≡ next_row self.entry.rows.now s.0)) }
+        ensures { MatchOption result (starts_of self.entry ≡ []) (λ r. IsSplit self.entry r.0 r.1) }
     {
         let count = self.count.checked_sub(1)?;
         let first = next_row(self.rows, self.first);

@@ -38,11 +38,11 @@ thing_one None None (Some i) o m hc hi ho t e = let q : t ≡ InThing i = cc in 
 thing_one None None None (Some o) m hc hi ho t e = let q : t ≡ OutThing o = cc in let k = ho o refl in rw q (omega arith)
 thing_one None None None None m hc hi ho t e = let z : ◌≡◌ {A = ℕ} 0 1 = cc in omega arith
 
-thing_below : (rows : List Row) (m : ℕ) (w : Word) (t : Thing) → thing (all_names (lines_at rows 0 m)) w ≡ Some t → source_operand (thing_source t) ≤ m
-thing_below rows m w t e =
-    let n = all_names (lines_at rows 0 m) in
+thing_below : (rows : List Row) (p m : ℕ) (w : Word) (t : Thing) → thing (all_names (lines_at rows p m)) w ≡ Some t → source_operand (thing_source t) ≤ m
+thing_below rows p m w t e =
+    let n = all_names (lines_at rows p m) in
     thing_one (find n.constants w) (found w n.cells) (found w n.inputs) (found w n.outputs) m
-    (named_below rows 0 m Cell w) (named_below rows 0 m In w) (named_below rows 0 m Out w) t e
+    (named_below rows p m Cell w) (named_below rows p m In w) (named_below rows p m Out w) t e
 
 target_one : (c o : Option ℕ) (m : ℕ) → ((k : ℕ) → c ≡ Some k → k < m) → ((k : ℕ) → o ≡ Some k → k < m)
     → (t : Target) → or_else (changed CellTarget c) (changed OutTarget o) ≡ Some t → operand (target_instr t) ≤ m
@@ -50,10 +50,10 @@ target_one (Some c) o m hc ho t e = let q : t ≡ CellTarget c = cc in let k = h
 target_one None (Some o) m hc ho t e = let q : t ≡ OutTarget o = cc in let k = ho o refl in rw q (omega arith)
 target_one None None m hc ho t e = let z : ◌≡◌ {A = ℕ} 0 1 = cc in omega arith
 
-target_below : (rows : List Row) (m : ℕ) (w : Word) (t : Target) → target (all_names (lines_at rows 0 m)) w ≡ Some t → operand (target_instr t) ≤ m
-target_below rows m w t e =
-    let n = all_names (lines_at rows 0 m) in
-    target_one (found w n.cells) (found w n.outputs) m (named_below rows 0 m Cell w) (named_below rows 0 m Out w) t e
+target_below : (rows : List Row) (p m : ℕ) (w : Word) (t : Target) → target (all_names (lines_at rows p m)) w ≡ Some t → operand (target_instr t) ≤ m
+target_below rows p m w t e =
+    let n = all_names (lines_at rows p m) in
+    target_one (found w n.cells) (found w n.outputs) m (named_below rows p m Cell w) (named_below rows p m Out w) t e
 
 -- The same of what is pushed or put, also where a name stands for nothing.
 source_or_below : (o : Option Thing) (m : ℕ) → ((t : Thing) → o ≡ Some t → source_operand (thing_source t) ≤ m)
@@ -61,13 +61,13 @@ source_or_below : (o : Option Thing) (m : ℕ) → ((t : Thing) → o ≡ Some t
 source_or_below None m h = omega arith
 source_or_below (Some t) m h = h t refl
 
-pub source_below : (rows : List Row) (m : ℕ) (w : Word) → source_operand (thing_source (otherwise (Constant (pos 0)) (thing (all_names (lines_at rows 0 m)) w))) ≤ m
-source_below rows m w = source_or_below (thing (all_names (lines_at rows 0 m)) w) m (thing_below rows m w)
+pub source_below : (rows : List Row) (p m : ℕ) (w : Word) → source_operand (thing_source (otherwise (Constant (pos 0)) (thing (all_names (lines_at rows p m)) w))) ≤ m
+source_below rows p m w = source_or_below (thing (all_names (lines_at rows p m)) w) m (thing_below rows p m w)
 
 instr_or_below : (o : Option Target) (m : ℕ) → ((t : Target) → o ≡ Some t → operand (target_instr t) ≤ m)
     → operand (target_instr (otherwise (CellTarget 0) o)) ≤ m
 instr_or_below None m h = omega arith
 instr_or_below (Some t) m h = h t refl
 
-pub instr_below : (rows : List Row) (m : ℕ) (w : Word) → operand (target_instr (otherwise (CellTarget 0) (target (all_names (lines_at rows 0 m)) w))) ≤ m
-instr_below rows m w = instr_or_below (target (all_names (lines_at rows 0 m)) w) m (target_below rows m w)
+pub instr_below : (rows : List Row) (p m : ℕ) (w : Word) → operand (target_instr (otherwise (CellTarget 0) (target (all_names (lines_at rows p m)) w))) ≤ m
+instr_below rows p m w = instr_or_below (target (all_names (lines_at rows p m)) w) m (target_below rows p m w)

@@ -1,7 +1,7 @@
 -- The state lines of each process, by the first line.
-use Rattle.std.proofs.Common.{◌≡◌, ℕ, zero, suc, ◌+◌, ◌≤◌, Bool, true, false, cond, List, [], ◌∷◌, length, map, sym, refl, add-one, ap, ◌∙◌, arith}
+use Rattle.std.proofs.Common.{◌≡◌, ℕ, zero, suc, ◌+◌, ◌≤◌, Bool, true, false, cond, List, ◌∷◌, length, map, sym, refl, add-one, ap, ◌∙◌, arith}
 use Rattle.std.proofs.lemmas.List.{length-map}
-use Rattle.text.specs.Items.{IsBehind}
+use Rattle.text.specs.Items.{IsSplit}
 use Rattle.text.specs.Sheet.{next_row}
 use Rattle.text.specs.declared.items.Items.{Items}
 use Rattle.text.specs.declared.row.Row.{Row}
@@ -17,16 +17,15 @@ one_more : (rows : List Row) (p k n : ℕ) → n ≡ k + 1
 one_more rows p k n e = ap (groups rows p) (e ∙ add-one k)
 
 -- A process is the first of those of its line and the lines behind; any other line has none.
-pub groups_on : (items behind : Items) (at s : ℕ) → IsBehind items behind → at ≡ items.first → s ≡ length (states_behind (lines_of behind)) → true ≡ is Proc (line_at behind.rows.now at)
-    → groups_of items ≡ (behind.first, s) ∷ groups_of behind
-groups_on items behind at s b e f t =
-    let t2 : true ≡ is Proc (line_at items.rows.now items.first) = rw (b.rows, e) at t in
-    rw (f, b.first, b.rows) (rw (← t2) at (one_more items.rows.now items.first behind.count items.count b.count))
+pub groups_on : (items behind : Items) (at s : ℕ) → IsSplit items at behind → s ≡ length (states_behind (lines_of behind)) → true ≡ is Proc (line_at behind.rows.now at) → groups_of items ≡ (behind.first, s) ∷ groups_of behind
+groups_on items behind at s b f t =
+    let process : true ≡ is Proc (line_at items.rows.now items.first) = rw (b.rows, b.first) at t in
+    rw (f, b.next, b.first, b.rows) (rw (← process) at (one_more items.rows.now items.first behind.count items.count (sym b.count)))
 
-pub groups_off : (items behind : Items) (at : ℕ) → IsBehind items behind → at ≡ items.first → false ≡ is Proc (line_at behind.rows.now at) → groups_of items ≡ groups_of behind
-groups_off items behind at b e t =
-    let t2 : false ≡ is Proc (line_at items.rows.now items.first) = rw (b.rows, e) at t in
-    rw (b.first, b.rows) (rw (← t2) at (one_more items.rows.now items.first behind.count items.count b.count))
+pub groups_off : (items behind : Items) (at : ℕ) → IsSplit items at behind → false ≡ is Proc (line_at behind.rows.now at) → groups_of items ≡ groups_of behind
+groups_off items behind at b t =
+    let other : false ≡ is Proc (line_at items.rows.now items.first) = rw (b.rows, b.first) at t in
+    rw (b.next, b.first, b.rows) (rw (← other) at (one_more items.rows.now items.first behind.count items.count (sym b.count)))
 
 -- The lines of each group.
 abbrev pub lines_in : List Row → List (ℕ × ℕ) → List (List Line)

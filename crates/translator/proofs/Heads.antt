@@ -1,5 +1,5 @@
 -- What the head says of lines, line by line.
-use Rattle.std.proofs.Common.{◌≡◌, ℕ, suc, ◌+◌, ◌≤◌, Bool, true, false, cond, List, [], ◌∷◌, length, map, ℤ, pos, Some, None, Option, sym, refl, ap, ◌∙◌, arith, eqb-true}
+use Rattle.std.proofs.Common.{◌≡◌, ℕ, suc, ◌≤◌, Bool, true, false, cond, List, [], ◌∷◌, length, map, ℤ, pos, Some, None, Option, sym, refl, ap, ◌∙◌, arith, eqb-true}
 use Rattle.std.specs.List.{filter, find}
 use Rattle.std.specs.Option.{option_map, option_map_or}
 use borrow.Author.Tests.{clash}
@@ -8,7 +8,7 @@ use Rattle.language.specs.Basics.{Word, count, in_front, those, collect}
 use Rattle.language.specs.Named.{Line, kind, tact, const, cell, input, output, process, state}
 use Rattle.language.specs.Numbers.{word_value}
 use Rattle.language.specs.Lines.{is, sort, rank, name, declared}
-use Rattle.language.specs.OnSheet.{line_of, line_at, lines_at, opener_at, digits_at, second_row}
+use Rattle.language.specs.OnSheet.{line_of, line_at, opener_at, digits_at, second_row}
 use Rattle.language.specs.Words.{kind_number, period}
 use Rattle.language.specs.declared.house.Opener.{Opener}
 use Rattle.language.specs.declared.house.Opener.TheVariants.{Kind, Tact, Const, Cell, In, Out, Proc, State}

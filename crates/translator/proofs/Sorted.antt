@@ -1,8 +1,6 @@
 -- What stands in a line, told by its sort.
-use Rattle.std.proofs.Common.{◌≡◌, ℕ, zero, suc, ◌+◌, ◌-◌, ◌<◌, ◌≤◌, Bool, true, false, cond, List, [], ◌∷◌, length, map, Some, None, Option, sym, refl, ap, arith}
+use Rattle.std.proofs.Common.{◌≡◌, ℕ, zero, suc, ◌+◌, ◌-◌, ◌<◌, ◌≤◌, Bool, true, false, cond, List, [], ◌∷◌, length, Some, None, Option, sym, refl, ap}
 use borrow.Author.Tests.{clash}
-use Rattle.std.specs.List.{prefix_len}
-use Rattle.language.specs.Basics.{leading}
 use Rattle.text.specs.Sheet.{next_row}
 use Rattle.language.proofs.Lines.{lines_more, lines_none}
 use Rattle.text.specs.declared.row.Row.{Row}
@@ -77,12 +75,3 @@ process_off rows at next k i h g e = let q = lines_more rows at k i h in rw (q, 
 
 pub process_out : (rows : List Row) (at k i : ℕ) → k ≤ i → processes (lines_at rows at (k - i)) ≡ []
 process_out rows at k i h = let q = lines_none rows at k i h in rw q
-
--- How many of the first rows are read as what passes a test, and how many in front of all are read.
-pub leading_rows : {A : Type 0} (p : A → Bool) (f : ℕ → A) (ats : List ℕ) → prefix_len (λ at. p (f at)) ats ≡ length (leading p (map f ats))
-leading_rows p f [] = refl
-leading_rows p f (at ∷ ats) = let h = leading_rows p f ats in grind arith
-
-pub leading_few : {A : Type 0} (p : A → Bool) (xs : List A) → length (leading p xs) ≤ length xs
-leading_few p [] = omega arith
-leading_few p (x ∷ xs) = elim (p x) as (λ b. length (cond b (x ∷ leading p xs) []) ≤ suc (length xs)) [ true ↦ let h = leading_few p xs in omega arith | false ↦ omega arith ]

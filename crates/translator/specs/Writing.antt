@@ -12,7 +12,6 @@ use Rattle.language.specs.Numbers.{word_value, natural}
 use Rattle.language.specs.Named.{Line}
 use Rattle.language.specs.Named.{Term, number, named, two, isnt, both, either, ask}
 use Rattle.language.specs.Named.{Act, put, choose, when, pass, then, go, start, stop, next, restart, halt, fail, reset, after}
-use Rattle.text.specs.declared.row.Row.{Row}
 use Rattle.language.specs.Lines.{declared, body}
 use Rattle.language.specs.OnSheet.{lines_at, lines_of}
 use Rattle.language.specs.Resolve.{Names, Spot, thing, target, process, expr, stmt, bodies, all_names}

@@ -6,12 +6,13 @@ ghost use Rattle.language.specs.Sizes.{term_size, enquiry_size};
 ghost use Rattle.translator.specs.Writing.{names_at, TermEmitted};
 
 use crate::encode::put;
-use crate::meaning::{number_at, process_at, source_at};
+use crate::meaning::{process_at, source_at};
 use crate::sheet::Sheet;
 use flat::instr::{Instr, Source, Unary};
 use language::house::Enquiry;
 use language::view::{TermView, term_view};
 use measure::size::term_size;
+use measure::value::number_at;
 
 // Puts a question about the process whose name stands at a row.
 fn emit_enquiry(

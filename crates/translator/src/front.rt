@@ -11,12 +11,12 @@ ghost use Rattle.translator.specs.Writing.{states_on, states_size, processes_siz
 ghost use Rattle.translator.specs.Front.{over, line_entries, process_entries, kind_at, head_words, front_words};
 
 use crate::group::StateLines;
-use crate::meaning::number_at;
 use crate::process::{line_size, size_states};
 use crate::sheet::Sheet;
 use language::house::{House, Opener};
 use language::line::is_line;
 use language::view::{house_at, opener_at, second_row};
+use measure::value::number_at;
 use text::row::{Row, next_row};
 
 // How many words the head has, and how many entries the words of a process.

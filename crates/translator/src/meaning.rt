@@ -3,7 +3,7 @@ ghost use Rattle.std.specs.Prelude.{◌≡◌, ◌^◌, ◌<◌, ◌≤◌, pos}
 ghost use Rattle.language.specs.Basics.{otherwise, found};
 ghost use Rattle.language.specs.Numbers.{word_value, natural};
 ghost use Rattle.language.specs.Lines.{declared};
-ghost use Rattle.language.specs.OnSheet.{lines_at, word_at, digits_at};
+ghost use Rattle.language.specs.OnSheet.{word_at, digits_at};
 ghost use Rattle.language.specs.Resolve.{thing, target, process};
 ghost use Rattle.language.specs.declared.names.Thing.TheVariants.{Constant};
 ghost use Rattle.language.specs.declared.names.Target.TheVariants.{Cell as CellTarget};
@@ -15,17 +15,10 @@ use crate::group::StateLines;
 use crate::sheet::Sheet;
 use flat::instr::{Instr, Source};
 use language::house::Opener;
-use language::view::{digits_at, word_at};
+use language::view::word_at;
 use lookup::{find_name, target_named, thing_named};
-use measure::value::value;
+use measure::value::number_at;
 use text::row::Row;
-
-// The number at a row as a word.
-pub(crate) fn number_at(rows: &[Row], at: usize) -> i32
-    ensures { result ≡ word_value (digits_at rows.now at) }
-{
-    value(digits_at(rows, at)).unwrap_or(0)
-}
 
 // The number at a row as a count, a negative one as 0.
 pub(crate) fn count_at(rows: &[Row], at: usize) -> usize
@@ -40,12 +33,7 @@ pub(crate) fn source_at(sheet: Sheet, at: usize) -> Source
     ensures is { result ≡ thing_source (otherwise (Constant (pos 0)) (thing (names_at sheet.entry) (word_at sheet.entry.lines.rows.now at))) }
     ensures below { source_operand result ≤ sheet.entry.lines.count }
 {
-    thing_named(
-        sheet.lines.rows,
-        sheet.lines.count,
-        word_at(sheet.lines.rows, at),
-    )
-    .map_or(Source::Lit(0), Source::from)
+    thing_named(sheet.lines, word_at(sheet.lines.rows, at)).map_or(Source::Lit(0), Source::from)
 }
 
 // The instruction that puts a value under the name at a row.
@@ -53,12 +41,7 @@ pub(crate) fn target_at(sheet: Sheet, at: usize) -> Instr
     ensures is { result ≡ target_instr (otherwise (CellTarget 0) (target (names_at sheet.entry) (word_at sheet.entry.lines.rows.now at))) }
     ensures below { operand result ≤ sheet.entry.lines.count }
 {
-    target_named(
-        sheet.lines.rows,
-        sheet.lines.count,
-        word_at(sheet.lines.rows, at),
-    )
-    .map_or(Instr::Keep(0), Instr::from)
+    target_named(sheet.lines, word_at(sheet.lines.rows, at)).map_or(Instr::Keep(0), Instr::from)
 }
 
 // The number of the process whose name stands at a row.
@@ -66,14 +49,8 @@ pub(crate) fn process_at(sheet: Sheet, at: usize) -> usize
     ensures is { result ≡ process (names_at sheet.entry) (word_at sheet.entry.lines.rows.now at) }
     ensures below { result ≤ sheet.entry.lines.count }
 {
-    find_name(
-        sheet.lines.rows,
-        0,
-        sheet.lines.count,
-        Opener::Proc,
-        word_at(sheet.lines.rows, at),
-    )
-    .unwrap_or(0)
+    let w = word_at(sheet.lines.rows, at);
+    find_name(sheet.lines, Opener::Proc, w).unwrap_or(0)
 }
 
 // The number, among the states of a process, of the one whose name stands at a row.
@@ -81,13 +58,6 @@ pub(crate) fn state_at(sheet: Sheet, states: StateLines, at: usize) -> usize
     ensures is { result ≡ otherwise 0 (found (word_at sheet.entry.lines.rows.now at) (declared State (states_on sheet.entry states))) }
     ensures below { result ≤ states.count }
 {
-    let rows = sheet.lines.rows;
-    find_name(
-        rows,
-        states.first,
-        states.count,
-        Opener::State,
-        word_at(rows, at),
-    )
-    .unwrap_or(0)
+    let w = word_at(sheet.lines.rows, at);
+    find_name(sheet.items(states), Opener::State, w).unwrap_or(0)
 }

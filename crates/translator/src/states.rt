@@ -12,19 +12,8 @@ use crate::sheet::Sheet;
 use crate::walk::Processes;
 use language::house::Opener;
 use language::line::is_line;
+use lookup::count_states;
 use text::items::Items;
-
-// How many of the first lines are states.
-fn count_states(lines: Items) -> usize
-    ensures is { result ≡ length (states_behind (lines_of lines.entry)) }
-    ensures within { result ≤ lines.entry.count }
-{
-    let rows = lines.rows;
-    lines
-        .iter()
-        .take_while(|at| is_line(rows, *at, Opener::State))
-        .count()
-}
 
 impl<'s, 'a> Sheet<'s, 'a> {
     // The processes of its lines.
@@ -37,7 +26,8 @@ impl<'s, 'a> Sheet<'s, 'a> {
 
     // The state lines of one.
     pub(crate) fn items(self, states: StateLines) -> Items<'s, 'a>
-        ensures { starts_of result ≡ starts self.entry.lines.rows.now states.first states.count }
+        ensures rows { result.rows.now ≡ self.entry.lines.rows.now }
+        ensures starts { starts_of result ≡ starts self.entry.lines.rows.now states.first states.count }
     {
         Items {
             rows: self.lines.rows,

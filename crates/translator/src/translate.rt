@@ -17,7 +17,7 @@ use text::row::Row;
 fn write_checked(sheet: Sheet, code: &mut [i32]) -> Result<(usize, usize), Refusal>
     ensures { (record { told = told result; code = code.new }) ≡ outcome (answer_for (length code.old) (forms_of sheet.entry.lines) (lines_of sheet.entry.lines)) code.old }
 {
-    check(sheet.lines.rows, sheet.lines.count)?;
+    check(sheet.lines)?;
     if code.len() < count_words(sheet) {
         return Err(Refusal::ShortCode);
     }

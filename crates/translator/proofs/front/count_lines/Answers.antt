@@ -1,5 +1,5 @@
 -- The rows whose lines are of the sort.
-use Rattle.std.proofs.Common.{◌≡◌, length, map, ◌∙◌, arith, rules}
+use Rattle.std.proofs.Common.{◌≡◌, map, ◌∙◌, arith, rules}
 use Rattle.std.proofs.lemmas.Iterator.{YieldsList}
 use Rattle.std.proofs.lemmas.Iterator.Consumers.{count_from_yields_List, YieldsList-from_filter}
 use Rattle.std.proofs.lemmas.List.{length-map}

@@ -1,5 +1,5 @@
 -- One entry more, an unused one, and all.
-use Rattle.std.proofs.Common.{◌≡◌, ◌+◌, ◌^◌, ◌<◌, map, set, pos, refl, ap, arith, w32}
+use Rattle.std.proofs.Common.{◌≡◌, ◌+◌, ◌^◌, ◌<◌, map, set, refl, ap, arith, w32}
 use mir.Facts.{to_z_pos}
 use Rattle.language.specs.Lines.{body}
 use Rattle.language.specs.OnSheet.{line_at}
@@ -10,7 +10,7 @@ use Rattle.translator.proofs.front.write_entries.Goals as goal
 use Rattle.translator.proofs.front.write_entries.Goals.{in-Some, in-None}
 
 pub loop-i-init : goal.loop-i-init
-loop-i-init c = rw (c.iter-left.ensures.rows, c.items.ensures) (entries_from _ _ _ _)
+loop-i-init c = rw (c.iter-left.ensures.rows, c.items.ensures.starts) (entries_from _ _ _ _)
 
 pub loop-i-preserved : goal.loop-i-preserved
 loop-i-preserved c =

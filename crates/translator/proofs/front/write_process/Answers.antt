@@ -1,5 +1,5 @@
 -- How many states, and their entries.
-use Rattle.std.proofs.Common.{◌^◌, ◌<◌, map, ◌∙◌, arith, w32}
+use Rattle.std.proofs.Common.{◌^◌, ◌<◌, ◌∙◌, arith, w32}
 use Rattle.std.proofs.lemmas.List.{length-map}
 use mir.Facts.{to_z_pos}
 use Rattle.text.proofs.Starts.{length-starts}

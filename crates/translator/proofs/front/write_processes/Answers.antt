@@ -1,6 +1,5 @@
 -- The words of one process more, and of all.
-use Rattle.std.proofs.Common.{refl, ap, arith, rules}
-use Rattle.translator.specs.Writing.{processes_size}
+use Rattle.std.proofs.Common.{refl, ap, arith}
 use Rattle.translator.proofs.Fronts.{fronts_from, fronts_more, fronts_room}
 use Rattle.translator.proofs.Groups.{lines_in, processes_are}
 use Rattle.translator.proofs.front.write_processes.Goals as goal

@@ -10,7 +10,7 @@ use Rattle.translator.proofs.meaning.target_at.Goals as goal
 
 pub returns : goal.returns
 returns c =
-    let rows = c.args.sheet.lines.rows.now in
-    let w = word_at rows c.args.at in
+    let lines = c.args.sheet.lines in
+    let w = word_at lines.rows.now c.args.at in
     let e : c.map_or.result ≡ target_instr (otherwise (CellTarget 0) (target (names_at c.args.sheet) w)) = search rules in
-    record { is = e; below = rw e (instr_below rows c.args.sheet.lines w) }
+    record { is = e; below = rw e (instr_below lines.rows.now lines.first lines.count w) }

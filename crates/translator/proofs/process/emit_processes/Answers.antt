@@ -1,5 +1,5 @@
 -- One process more, and all.
-use Rattle.std.proofs.Common.{length, ap, sym, ◌∙◌, zero-add, arith, rules}
+use Rattle.std.proofs.Common.{length, ap, zero-add, arith, rules}
 use Rattle.translator.specs.Writing.{processes_size}
 use Rattle.translator.proofs.Going.{processes_from, processes_more}
 use Rattle.translator.proofs.Groups.{lines_in, processes_are, groups_few}

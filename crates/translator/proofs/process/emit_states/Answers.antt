@@ -8,7 +8,7 @@ use Rattle.translator.proofs.process.emit_states.Goals as goal
 
 pub loop-here-init : goal.loop-here-init
 loop-here-init c =
-    let e = c.iter-at-items.ensures.rows ∙ c.items.ensures in
+    let e = c.iter-at-items.ensures.rows ∙ c.items.ensures.starts in
     (zero-add _ ∙ ap length e ∙ length-starts _ _ _, rw e (states_from _ _ _ _ _))
 
 pub invariant_of-site : goal.invariant_of-site

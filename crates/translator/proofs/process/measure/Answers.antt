@@ -1,5 +1,5 @@
 -- A process more, and all.
-use Rattle.std.proofs.Common.{length, ap, ◌∙◌, sym, arith, rules}
+use Rattle.std.proofs.Common.{length, ap, arith}
 use Rattle.translator.specs.Writing.{processes_size}
 use Rattle.translator.proofs.Groups.{lines_in, processes_are, groups_few, length-lines_in}
 use Rattle.translator.proofs.process.measure.Goals as goal

@@ -1,13 +1,12 @@
 -- A state more, and all.
 use Rattle.std.proofs.Common.{map, ap, arith, rules}
-use Rattle.text.specs.Items.{starts_left}
 use Rattle.language.specs.OnSheet.{line_at}
 use Rattle.translator.specs.Writing.{states_size}
 use Rattle.translator.proofs.process.size_states.Goals as goal
 
 pub loop-at-init : goal.loop-at-init
 loop-at-init c =
-    let e = ap (λ ats. states_size (map (line_at c.args.sheet.lines.rows.now) ats)) c.items.ensures in
+    let e = ap (λ ats. states_size (map (line_at c.args.sheet.lines.rows.now) ats)) c.items.ensures.starts in
     search rules
 
 pub overflow_add-size-in-loop-at : goal.overflow_add-size-in-loop-at

@@ -1,15 +1,14 @@
 -- What was read is checked and written, or the refusal of reading is told.
 use Rattle.std.proofs.Common.{length, sym, refl, ap, ◌∙◌}
 use Rattle.std.proofs.lemmas.Result.{err_from_is_err_and}
-use Rattle.checks.specs.Refusals.{refusal_number, refusal_line}
 use Rattle.translator.specs.Outcome.{outcome}
 use Rattle.translator.proofs.Few.{few_lines}
 use Rattle.language.proofs.OnSheets.{fit_lines_read}
-use Rattle.translator.proofs.Outcomes.{turned_away, unread_outcome, read_answer}
+use Rattle.translator.proofs.Outcomes.{unread_outcome, read_answer}
 use Rattle.translator.proofs.translate.translate.Goals as goal
 
-pub invariant_of-read : goal.invariant_of-read
-invariant_of-read c = record { few = few_lines c.args.text.now (length c.args.sheet.now) c.in_ok-page.page c.in_ok-page.ensures.answer }
+pub invariant_of-sheet : goal.invariant_of-sheet
+invariant_of-sheet c = record { few = few_lines c.args.text.now (length c.args.sheet.now) c.in_ok-page.page c.in_ok-page.ensures.answer }
 
 pub returns : goal.returns
 returns c =

@@ -5,9 +5,8 @@ use Rattle.translator.proofs.states.ProcessesIterator.next.Goals as goal
 
 pub returns-then-is_line : goal.returns-then-is_line
 returns-then-is_line c =
-    let e = sym c.loop-at.invariant ∙ groups_on c.loop-at.self.left c.in-Some.behind c.in-Some.at c.count_states.result c.in-Some.ensures.behind c.in-Some.ensures.first c.count_states.ensures.is c.if-is_line.ensures in
+    let e = sym c.loop-at.invariant ∙ groups_on c.loop-at.self.left c.in-Some.behind c.in-Some.at c.count_states.result c.in-Some.ensures c.count_states.ensures.is c.if-is_line.ensures in
     search rules
 
 pub loop-at-preserved : goal.loop-at-preserved
-loop-at-preserved c =
-    sym (groups_off c.loop-at.self.left c.in-Some.behind c.in-Some.at c.in-Some.ensures.behind c.in-Some.ensures.first c.if-is_line.ensures) ∙ c.loop-at.invariant
+loop-at-preserved c = sym (groups_off c.loop-at.self.left c.in-Some.behind c.in-Some.at c.in-Some.ensures c.if-is_line.ensures) ∙ c.loop-at.invariant
