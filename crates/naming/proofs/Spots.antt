@@ -57,16 +57,6 @@ states_run before states at s =
     ∙ ap (map (line_at before.rows.now)) s.run
     ∙ ap (λ q. back q states.first states.count) (sym s.one_sheet)
 
--- No line is passed yet.
-pub stands_first : (none : Items) → none.count ≡ 0 → Stands none none none.first
-stands_first none e = record {
-  one_sheet = refl;
-  there = ap (row_behind none.rows.now none.first) (sym e);
-  follows = ap (row_behind none.rows.now none.first) (sym e);
-  few = omega arith;
-  run = ap (λ k. leading (λ q. is State (line_at none.rows.now q)) (rows_back none.rows.now none.first k)) e ∙ ap (rows_back none.rows.now none.first) (sym e);
-}
-
 -- The rows of the states right before the line behind: one more behind a state, else none.
 run_next : (rows : List Row) (p n f k at : ℕ) (b : Bool) → b ≡ is State (line_at rows at) → at ≡ row_behind rows p n
     → leading (λ q. is State (line_at rows q)) (rows_back rows p n) ≡ rows_back rows f k

@@ -9,7 +9,7 @@ ghost use Rattle.naming.specs.Splits.{line_of};
 ghost use Rattle.naming.specs.Spots.{back_of};
 
 use crate::spot::{Spot, Spots};
-use language::house::{Opener, house_word, same};
+use language::house::{Opener, house_word};
 use language::line::is_line;
 use lookup::name_at;
 use text::items::Items;
@@ -19,10 +19,7 @@ use text::row::Row;
 fn bears_name(rows: &[Row], at: usize, w: &[u8]) -> bool
     ensures { result ≡ bears w.now (name (line_at rows.now at)) }
 {
-    match name_at(rows, at) {
-        Some(v) => same(v, w),
-        None => false,
-    }
+    name_at(rows, at).is_some_and(|v| v == w)
 }
 
 // Whether the line at a row declares a word and is no state, unless states count too.
