@@ -1,5 +1,7 @@
 -- The number and the line of each refusal of a text.
 use Rattle.std.specs.Prelude.{ℕ, Some, None, Ok, Err, Option, Result}
+use Rattle.text.specs.declared.read.ReadRefusal.{ReadRefusal}
+use Rattle.text.specs.declared.read.ReadRefusal.TheVariants.{Size as TextSize, Line, Short}
 use Rattle.checks.specs.declared.refusal.Refusal.{Refusal}
 use Rattle.checks.specs.declared.refusal.Refusal.TheVariants.{Size, NoForm, ShortSheet, Unfit, PastLimit, NoName, Unknown, NextInLast, ShortCode}
 
@@ -31,3 +33,9 @@ refusal_line ShortCode = 0
 abbrev pub cause : {U : Type 0} → Result U Refusal → Option (ℕ × ℕ)
 cause (Ok u) = None
 cause (Err e) = Some (refusal_number e, refusal_line e)
+
+-- The refusal of a text that could not be read.
+abbrev pub refusal_of : ReadRefusal → Refusal
+refusal_of TextSize = Size
+refusal_of (Line n) = NoForm n
+refusal_of Short = ShortSheet

@@ -1,11 +1,13 @@
 // Why a text is not translated.
 ghost use Rattle.std.specs.Prelude.{◌≡◌};
-ghost use Rattle.checks.specs.Refusals.{refusal_number, refusal_line};
+ghost use Rattle.checks.specs.Refusals.{refusal_number, refusal_line, refusal_of};
+
+use text::read::ReadRefusal;
 
 // The text has no byte or more than 32,768; a line is no form; the sheet has too few rows; a form is unknown, has other items than its
 // own, or is out of place; a number or a count is past its limit, or something is missing; a name was met before or is a house word;
 // a word is undeclared or of a sort not taken there; `next` stands in a last state; the code has too few words.
-#[derive(Clone, Copy)]
+#[derive(Clone, Copy, PartialEq, Eq, Debug)]
 pub enum Refusal {
     Size,
     NoForm(usize),
@@ -16,6 +18,19 @@ pub enum Refusal {
     Unknown(usize),
     NextInLast(usize),
     ShortCode,
+}
+
+// A text that could not be read is refused for the same cause.
+impl From<ReadRefusal> for Refusal {
+    ghost from_gives = { λ e r. r ≡ refusal_of e };
+
+    fn from(refusal: ReadRefusal) -> Refusal {
+        match refusal {
+            ReadRefusal::Size => Refusal::Size,
+            ReadRefusal::Line(n) => Refusal::NoForm(n),
+            ReadRefusal::Short => Refusal::ShortSheet,
+        }
+    }
 }
 
 impl Refusal {
@@ -31,8 +46,7 @@ impl Refusal {
             Refusal::NoName(_) => 5,
             Refusal::Unknown(_) => 6,
             Refusal::NextInLast(_) => 7,
-            Refusal::ShortSheet => 8,
-            Refusal::ShortCode => 8,
+            Refusal::ShortSheet | Refusal::ShortCode => 8,
         }
     }
 
@@ -41,15 +55,13 @@ impl Refusal {
         ensures { result ≡ refusal_line self }
     {
         match self {
-            Refusal::Size => 0,
-            Refusal::NoForm(n) => n,
-            Refusal::Unfit(n) => n,
-            Refusal::PastLimit(n) => n,
-            Refusal::NoName(n) => n,
-            Refusal::Unknown(n) => n,
-            Refusal::NextInLast(n) => n,
-            Refusal::ShortSheet => 0,
-            Refusal::ShortCode => 0,
+            Refusal::Size | Refusal::ShortSheet | Refusal::ShortCode => 0,
+            Refusal::NoForm(n)
+            | Refusal::Unfit(n)
+            | Refusal::PastLimit(n)
+            | Refusal::NoName(n)
+            | Refusal::Unknown(n)
+            | Refusal::NextInLast(n) => n,
         }
     }
 }

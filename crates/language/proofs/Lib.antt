@@ -6,3 +6,4 @@ pub mod Sizes
 pub mod Readings
 pub mod OnSheets
 pub mod Tests
+pub mod Changes

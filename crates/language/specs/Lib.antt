@@ -13,3 +13,4 @@ pub mod Causes
 pub mod Translation
 pub mod OnSheet
 pub mod Sizes
+pub mod Pushes

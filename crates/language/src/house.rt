@@ -1,6 +1,5 @@
 // The house words: words that belong to the language and are no names.
 ghost use Rattle.std.specs.Prelude.{◌≡◌};
-ghost use Rattle.language.specs.Basics.{same};
 ghost use Rattle.language.specs.House.{house};
 
 use flat::instr::Binary;
@@ -61,13 +60,6 @@ pub enum House {
     Expression(TermHead),
     Statement(ActHead),
     KindName(CellKind),
-}
-
-// Whether two words are the same.
-pub fn same(a: &[u8], b: &[u8]) -> bool
-    ensures { result ≡ same a.now b.now }
-{
-    a == b
 }
 
 // The 34 house words, and what each is there for.

@@ -1,28 +1,12 @@
 // The lines on a sheet: of what sort each is.
 ghost use Rattle.std.specs.Prelude.{◌≡◌, ◌-◌};
-ghost use Rattle.language.specs.Lines.{sort, rank, is};
+ghost use Rattle.language.specs.Lines.{sort, is};
 ghost use Rattle.language.specs.OnSheet.{line_at, third_row, count_at};
 
 use crate::house::Opener;
 use crate::view::{count_at, opener_at, third_row};
 use text::items::Items;
 use text::row::Row;
-
-// The place of a sort in the order of lines.
-pub fn rank(opener: Opener) -> u32
-    ensures { result ≡ rank opener }
-{
-    match opener {
-        Opener::Kind => 1,
-        Opener::Tact => 2,
-        Opener::Const => 3,
-        Opener::Cell => 4,
-        Opener::In => 5,
-        Opener::Out => 6,
-        Opener::Proc => 7,
-        Opener::State => 8,
-    }
-}
 
 // The sort of the line at a row; one that opens no line counts as a kind.
 #[tactic(auto, unfolding(crate::specs::OnSheet::line_at))]

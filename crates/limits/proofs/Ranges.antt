@@ -1,26 +1,41 @@
 -- The statements of a body, one by one: whether each is timely.
-use Rattle.std.proofs.Common.{◌≡◌, ℕ, zero, suc, ◌+◌, ◌-◌, ◌<◌, true, false, ◌&&◌, List, sym, refl, ap, ◌∙◌}
-use Rattle.text.specs.Sheet.{next_row}
+use Rattle.std.proofs.Common.{◌≡◌, ℕ, true, ◌&&◌, List, [], ◌∷◌, map, refl, ap}
+use Rattle.std.specs.List.{list_all}
+use Rattle.text.specs.Sheet.{starts}
 use Rattle.text.specs.declared.row.Row.{Row}
 use Rattle.language.specs.Named.{Term, Act}
 use Rattle.language.specs.Causes.{timely, all_timely}
-use Rattle.language.specs.OnSheet.{act_of, acts_of}
+use Rattle.language.specs.OnSheet.{act_of, change_of, sequence}
 use Rattle.language.specs.declared.view.ActView.{ActView}
-use Rattle.language.specs.declared.view.ActView.TheVariants.{Do}
-use Rattle.language.proofs.Depth.{acts_more}
+use Rattle.language.specs.declared.view.ActView.TheVariants.{Put, When, Choose, Do, After, Set, Odd}
+use Rattle.language.specs.declared.view.Change.{Change}
+use Rattle.language.specs.declared.view.Change.TheVariants.{Go, Next, Start, Restart, Stop, Halt, Fail, Reset}
 
--- Statements one behind another are no timeout.
-timely_acts : (A : ℕ → Act) (rows : List Row) (p k : ℕ) → true ≡ timely (acts_of A rows p k)
-timely_acts A rows p zero = refl
-timely_acts A rows p (suc k) = refl
+-- A statement that is no timeout is timely.
+timely_acts : (A : ℕ → Act) (ats : List ℕ) → true ≡ timely (sequence (map A ats))
+timely_acts A [] = refl
+timely_acts A (at ∷ ats) = refl
 
-pub timely_do : (rows : List Row) (T : ℕ → Term) (A : ℕ → Act) (v : ActView) {p k : ℕ} → Do p k ≡ v → true ≡ timely (act_of rows T A v)
-timely_do rows T A v {p} {k} e = timely_acts A rows p k ∙ ap (λ w. timely (act_of rows T A w)) e
+timely_change : (rows : List Row) (c : Change) → true ≡ timely (change_of rows c)
+timely_change rows (Go s) = refl
+timely_change rows Next = refl
+timely_change rows (Start p) = refl
+timely_change rows Restart = refl
+timely_change rows (Stop p) = refl
+timely_change rows Halt = refl
+timely_change rows Fail = refl
+timely_change rows Reset = refl
 
--- The next one is not timely, so not all that are left are; or it is, and those behind it are all timely exactly if those that are left are.
-pub late_here : (A : ℕ → Act) (rows : List Row) (p k i : ℕ) → i < k → false ≡ timely (A p) → false ≡ all_timely (acts_of A rows p (k - i))
-late_here A rows p k i h e = ap (λ b. b && all_timely (acts_of A rows (next_row rows p) (k - (i + 1)))) e ∙ ap all_timely (sym (acts_more A rows p k i h))
+pub timely_other : (rows : List Row) (T : ℕ → Term) (A : ℕ → Act) (v : ActView) → ((n s : ℕ) → v ≡ After n s → ⊥) → true ≡ timely (act_of rows T A v)
+timely_other rows T A (Put n e) h = refl
+timely_other rows T A (When e s) h = refl
+timely_other rows T A (Choose e s t) h = refl
+timely_other rows T A (Do p k) h = timely_acts A (starts rows p k)
+timely_other rows T A (After n s) h = absurd (h n s refl)
+timely_other rows T A (Set c) h = timely_change rows c
+timely_other rows T A Odd h = refl
 
-pub timely_further : (A : ℕ → Act) (rows : List Row) (p q k i : ℕ) → i < k → q ≡ next_row rows p → true ≡ timely (A p) → all_timely (acts_of A rows q (k - (i + 1))) ≡ all_timely (acts_of A rows p (k - i))
-timely_further A rows p q k i h n e =
-    ap (λ at. all_timely (acts_of A rows at (k - (i + 1)))) n ∙ ap (λ b. b && all_timely (acts_of A rows (next_row rows p) (k - (i + 1)))) e ∙ ap all_timely (sym (acts_more A rows p k i h))
+-- Statements one behind another are all timely exactly if each is.
+pub all_timely_read : (A : ℕ → Act) (ats : List ℕ) → list_all (λ at. timely (A at)) ats ≡ all_timely (sequence (map A ats))
+all_timely_read A [] = refl
+all_timely_read A (at ∷ ats) = ap (λ b. timely (A at) && b) (all_timely_read A ats)

@@ -1,5 +1,5 @@
 -- What the counts over lines tell: from one line to the next, and whether a line passes a limit.
-use Rattle.std.proofs.Common.{◌≡◌, ℕ, suc, ◌+◌, Bool, true, false, cond, not, ◌||◌, eqb, ltb, leb, List, [], ◌∷◌, Some, None, Option, sym, refl, ap, ◌∙◌, ⊎_elim, arith}
+use Rattle.std.proofs.Common.{◌≡◌, ℕ, suc, ◌+◌, ◌<◌, Bool, true, false, cond, not, ◌||◌, eqb, ltb, leb, List, [], ◌∷◌, Some, None, Option, sym, refl, ap, ◌∙◌, ⊎_elim, arith}
 use Rattle.std.proofs.lemmas.Bool.{cases_Bool, true≢false}
 use Rattle.std.proofs.lemmas.Bool.Decides.{nat_tests}
 use Rattle.text.specs.declared.row.Row.{Row}
@@ -14,7 +14,7 @@ use Rattle.language.specs.declared.house.Opener.{Opener}
 use Rattle.language.specs.declared.house.Opener.TheVariants.{Kind, Tact, Const, Cell, In, Out, Proc, State}
 use Rattle.language.proofs.Sizes.{act_sizes}
 use Rattle.limits.specs.declared.tally.Tally.{Tally}
-use Rattle.limits.specs.Tallies.{tally_of, counted, with_line, full, past_with}
+use Rattle.limits.specs.Tallies.{tally_of, with_line, full, past_with, place}
 
 -- A state takes the instructions of its body, and an end.
 pub state_instructions : (rows : List Row) (at : ℕ) (o : Option Opener) → true ≡ is State (line_of rows at o) → instructions (line_of rows at o) ≡ suc (act_size (body_at rows at))
@@ -29,13 +29,8 @@ state_instructions rows at (Some Proc) e = absurd (true≢false e)
 state_instructions rows at (Some State) e = ap suc (act_sizes (all_names []) (record { own = 0; states = []; here = 0 }) (body_at rows at))
 
 -- One line more in a count.
-count_more : (b : Bool) (n : ℕ) → counted b (capped n) ≡ capped (cond b (suc n) n)
-count_more true n = omega arith
-count_more false n = refl
-
--- One line more in the count of the last ones in a row.
-leading_more : {A : Type 0} (p : A → Bool) (x : A) (xs : List A) → counted (p x) (cond (p x) (capped (count p (leading p xs))) 0) ≡ capped (count p (leading p (x ∷ xs)))
-leading_more p x xs = ⊎_elim (λ (e : p x ≡ true). simp e (count_more true (count p (leading p xs)))) (λ (e : p x ≡ false). simp e) (cases_Bool (p x))
+one_more : (n : ℕ) → capped (capped n + 1) ≡ capped (suc n)
+one_more n = omega arith
 
 -- Its instructions more in all.
 sums : (before : List Line) (l : Line) → capped (capped (total instructions before) + capped (instructions l)) ≡ capped (total instructions (l ∷ before))
@@ -44,19 +39,14 @@ sums before l = omega arith
 -- The counts over one line more.
 pub tally_more : (before : List Line) (l : Line) → with_line (tally_of before) l ≡ tally_of (l ∷ before)
 unfolding with_line
-tally_more before l =
-    let sorts = λ (o : Opener). count_more (is o l) (count (is o) before) in
-    λ i. record {
-      kinds = sorts Kind i;
-      tacts = sorts Tact i;
-      constants = sorts Const i;
-      cells = sorts Cell i;
-      inputs = sorts In i;
-      outputs = sorts Out i;
-      processes = sorts Proc i;
-      states = leading_more (is State) l before i;
-      instructions = sums before l i;
-    }
+tally_more before (Line.kind k) = rw (one_more, sums before (Line.kind k))
+tally_more before (Line.tact n) = rw (one_more, sums before (Line.tact n))
+tally_more before (Line.const w n) = rw (one_more, sums before (Line.const w n))
+tally_more before (Line.cell w) = rw (one_more, sums before (Line.cell w))
+tally_more before (Line.input w) = rw (one_more, sums before (Line.input w))
+tally_more before (Line.output w) = rw (one_more, sums before (Line.output w))
+tally_more before (Line.process w) = rw (one_more, sums before (Line.process w))
+tally_more before (Line.state w b) = rw (one_more, sums before (Line.state w b))
 
 -- What is passed over does not count.
 count_those : {A : Type 0} (p q : A → Bool) → ((x : A) → q x ≡ true → p x ≡ false) → (xs : List A) → count p (those (λ x. not (q x)) xs) ≡ count p xs
@@ -105,3 +95,14 @@ past_told {t} {u} before l behind e f = ap (λ v. past_with t v l behind) f ∙ 
 
 pub tally_told : {t u : Tally} (before : List Line) (l : Line) → t ≡ tally_of before → u ≡ with_line t l → u ≡ tally_of (l ∷ before)
 tally_told before l e f = f ∙ ap (λ s. with_line s l) e ∙ tally_more before l
+
+-- Every sort has a place among the counts.
+pub place_within : (o : Opener) → place o < 8
+place_within Kind = omega arith
+place_within Tact = omega arith
+place_within Const = omega arith
+place_within Cell = omega arith
+place_within In = omega arith
+place_within Out = omega arith
+place_within Proc = omega arith
+place_within State = omega arith

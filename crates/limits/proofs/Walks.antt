@@ -7,10 +7,6 @@ pub record Walk {A : Type 0} (p : List A → A → List A → Bool) (all rest : 
   pub passed : List A
   pub goes : first_where p (i + 1) passed rest ≡ first_where p 1 [] all
 
--- No place is passed yet.
-abbrev pub walk_starts : {A : Type 0} (p : List A → A → List A → Bool) (all rest : List A) → rest ≡ all → Walk p all rest 0
-walk_starts p all rest e = record { passed = []; goes = ap (first_where p 1 []) e }
-
 -- It is not at the next place.
 abbrev pub walk_further : {A : Type 0} {p : List A → A → List A → Bool} {all rest : List A} {i : ℕ} (w : Walk p all rest i) (x : A) (xs : List A) → rest ≡ x ∷ xs → false ≡ p w.passed x xs → Walk p all xs (i + 1)
 walk_further {p = p} {i = i} w x xs e here = record {

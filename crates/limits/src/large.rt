@@ -3,11 +3,13 @@ ghost use Rattle.std.specs.Prelude.{◌≡◌, not, []};
 ghost use Rattle.language.specs.Basics.{first_where};
 ghost use Rattle.language.specs.Causes.{large, any_large};
 ghost use Rattle.language.specs.Numbers.{short};
-ghost use Rattle.text.specs.Sheet.{form_at, forms_at, items_at};
+ghost use Rattle.text.specs.Items.{forms_in, forms_of};
+ghost use Rattle.text.specs.Sheet.{form_at};
 
 use language::view::inner_row;
 use measure::value::value;
-use text::row::{Row, next_row, row_at};
+use text::items::Items;
+use text::row::{Row, row_at};
 
 // How deep a line is read: its brackets, and the words and numbers inside.
 const DEPTH: usize = 13;
@@ -30,35 +32,39 @@ fn is_large(rows: &[Row], at: usize, left: usize) -> bool
     match row_at(rows, at) {
         Row::Word(_) => false,
         Row::Number(digits) => is_long(digits),
-        Row::Items(count, _) => any_large(rows, inner_row(rows, at), count, left - 1),
+        Row::Items(count, _) => {
+            let first = inner_row(rows, at);
+            any_large(Items { rows, first, count }, left - 1)
+        }
     }
 }
 
-// Whether one is in so many items from a row on.
+// Whether one of some items has one.
 #[cycle(any_large_is_large)]
-fn any_large(rows: &[Row], first: usize, count: usize, left: usize) -> bool
-    ensures { result ≡ any_large (items_at (form_at left rows.now) rows.now first count) }
+fn any_large(items: Items, left: usize) -> bool
+    ensures { result ≡ any_large (forms_in (form_at left items.entry.rows.now) items.entry) }
 {
-    let mut at = first;
-    for _ in 0..count {
-        if is_large(rows, at, left) {
+    for at in items.iter() {
+        if is_large(items.rows, at, left) {
             return true;
         }
-        at = next_row(rows, at);
     }
     false
 }
 
-// The first line that has one.
-pub fn first_large(rows: &[Row], lines: usize) -> Option<usize>
-    ensures { result ≡ first_where (λ before f behind. large f) 1 [] (forms_at rows.now 0 lines) }
+// Whether the line at a row has one.
+fn is_line_large(rows: &[Row], at: usize) -> bool
+    ensures { result ≡ large (form_at 13 rows.now at) }
 {
-    let mut at = 0;
-    for i in 0..lines {
-        if is_large(rows, at, DEPTH) {
-            return Some(i + 1);
-        }
-        at = next_row(rows, at);
-    }
-    None
+    is_large(rows, at, DEPTH)
+}
+
+// The first line that has one.
+pub fn first_large(lines: Items) -> Option<usize>
+    ensures { result ≡ first_where (λ before f behind. large f) 1 [] (forms_of lines.entry) }
+{
+    lines
+        .iter()
+        .position(|at| is_line_large(lines.rows, at))
+        .map(|i| i + 1)
 }

@@ -20,8 +20,7 @@ fn has_line(lines: Items, sort: Opener) -> bool
 pub fn is_lacking(lines: Items) -> bool
     ensures { result ≡ lacking (lines_of lines.entry) }
 {
-    let has_kind = has_line(lines, Opener::Kind);
-    let has_tact = has_line(lines, Opener::Tact);
-    let has_process = has_line(lines, Opener::Proc);
-    !(has_kind && has_tact && has_process)
+    !(has_line(lines, Opener::Kind)
+        && has_line(lines, Opener::Tact)
+        && has_line(lines, Opener::Proc))
 }

@@ -5,9 +5,9 @@ ghost use Rattle.language.specs.Numbers.{within, value_of};
 ghost use Rattle.language.specs.OnSheet.{act_at, body_at, line_at};
 
 use language::house::Opener;
-use language::view::{ActView, act_view, count_at, digits_at, opener_at, second_row, third_row};
+use language::line::body_at;
+use language::view::{ActView, act_view, digits_at, opener_at, second_row};
 use measure::value::value;
-use text::items::Items;
 use text::row::Row;
 
 // The longest period, and the longest timeout.
@@ -19,10 +19,7 @@ const LONGEST_TIMEOUT: i32 = 65_535;
 fn is_within(digits: &[u8], low: i32, high: i32) -> bool
     ensures { result ≡ within low high (value_of digits.now) }
 {
-    match value(digits) {
-        Some(v) => low <= v && v <= high,
-        None => false,
-    }
+    value(digits).is_some_and(|v| low <= v && v <= high)
 }
 
 // Whether the statement at a row is no timeout out of range.
@@ -31,12 +28,7 @@ fn is_timely(rows: &[Row], at: usize) -> bool
 {
     match act_view(rows, at) {
         ActView::After(n, _) => is_within(digits_at(rows, n), 0, LONGEST_TIMEOUT),
-        ActView::Put(_, _) => true,
-        ActView::When(_, _) => true,
-        ActView::Choose(_, _, _) => true,
-        ActView::Do(_, _) => true,
-        ActView::Set(_) => true,
-        ActView::Odd => true,
+        _ => true,
     }
 }
 
@@ -44,17 +36,7 @@ fn is_timely(rows: &[Row], at: usize) -> bool
 fn is_body_timely(rows: &[Row], at: usize) -> bool
     ensures { result ≡ all_timely (body_at rows.now at) }
 {
-    let body = Items {
-        rows,
-        first: third_row(rows, at),
-        count: count_at(rows, at).saturating_sub(2),
-    };
-    for item in body.iter() {
-        if !is_timely(rows, item) {
-            return false;
-        }
-    }
-    true
+    body_at(rows, at).iter().all(|item| is_timely(rows, item))
 }
 
 // Whether the line at a row has a period or a timeout out of range.
@@ -65,12 +47,6 @@ pub fn past_range(rows: &[Row], at: usize) -> bool
     match opener_at(rows, at) {
         Some(Opener::Tact) => !is_within(digits_at(rows, second_row(rows, at)), 1, LONGEST_TACT),
         Some(Opener::State) => !is_body_timely(rows, at),
-        Some(Opener::Kind) => false,
-        Some(Opener::Const) => false,
-        Some(Opener::Cell) => false,
-        Some(Opener::In) => false,
-        Some(Opener::Out) => false,
-        Some(Opener::Proc) => false,
-        None => false,
+        _ => false,
     }
 }

@@ -1,17 +1,17 @@
 -- Names looked up line by line, and in the lists of those that lines declare.
-use Rattle.std.proofs.Common.{◌≡◌, ℕ, zero, suc, ◌+◌, ◌-◌, ◌<◌, ◌≤◌, Bool, true, false, cond, List, [], ◌∷◌, length, Some, None, Option, sym, refl, ap, ◌∙◌, add-zero, zero-add, add-one, arith}
-use Rattle.text.specs.Sheet.{next_row}
+use Rattle.std.proofs.Common.{◌≡◌, ℕ, suc, ◌<◌, ◌≤◌, Bool, true, false, cond, ◌&&◌, List, [], ◌∷◌, map, length, position, Some, None, Option, refl, ap, ◌∙◌, arith}
+use Rattle.std.specs.List.{filter, find as find_first}
 use Rattle.text.specs.declared.row.Row.{Row}
 use Rattle.language.specs.Basics.{Word, same, found, find, changed, in_front, those}
 use Rattle.language.specs.Numbers.{word_value}
 use Rattle.language.specs.Named.{Line}
 use Rattle.language.specs.Lines.{sort, is, name, names, declared}
-use Rattle.lookup.specs.Lookups.{has_name, opens_name, place_at}
-use Rattle.language.specs.OnSheet.{word_at, digits_at, second_row, third_row, opener_at, line_of, line_at, lines_at}
+use Rattle.language.proofs.Tests.{position_more}
+use Rattle.lookup.specs.Lookups.{has_name, opens_name, declares_constant}
+use Rattle.language.specs.OnSheet.{word_at, digits_at, second_row, third_row, opener_at, line_of, line_at}
 use Rattle.language.specs.Resolve.{constant, constants_in}
 use Rattle.language.specs.declared.house.Opener.{Opener}
 use Rattle.language.specs.declared.house.Opener.TheVariants.{Kind, Tact, Const, Cell, In, Out, Proc, State}
-use Rattle.language.proofs.Lines.{lines_more}
 
 cond_same : {A : Type 0} (b : Bool) (x : A) → cond b x x ≡ x
 cond_same true x = refl
@@ -48,36 +48,23 @@ name_is rows at (Some Out) = refl
 name_is rows at (Some Proc) = refl
 name_is rows at (Some State) = refl
 
--- Counted from n + 1, or one more than counted from n.
-count_on : (n : ℕ) (o : Option ℕ) → changed (λ k. suc n + k) o ≡ changed (λ k. n + k) (changed suc o)
-count_on n None = refl
-count_on n (Some k) = ap Some (omega arith)
-
-place_step : (b : Bool) (v w : Word) (vs : List Word) (n : ℕ) (further else : Option ℕ)
-    → further ≡ changed (λ k. suc n + k) (found w vs)
-    → else ≡ changed (λ k. n + k) (found w vs)
-    → cond b (cond (same v w) (Some n) further) else ≡ changed (λ k. n + k) (found w (in_front (cond b (Some v) None) vs))
-place_step false v w vs n further else f e = e
-place_step true v w vs n further else f e =
-    elim (same v w) as (λ c. cond c (Some n) further ≡ changed (λ k. n + k) (cond c (Some 0) (changed suc (found w vs))))
-    [ true ↦ ap Some (sym (add-zero n)) | false ↦ f ∙ count_on n (found w vs) ]
-
--- What the walk over the lines finds is what the list of names has.
-place_found : (o : Opener) (w : Word) (rows : List Row) (m at n : ℕ)
-    → place_at o w rows m at n ≡ changed (λ k. n + k) (found w (declared o (lines_at rows at m)))
+-- The names that the lines at some rows declare of a sort are the second items of those that do.
+pub declared_rows : (o : Opener) (rows : List Row) (ats : List ℕ)
+    → declared o (map (line_at rows) ats) ≡ map (λ at. word_at rows (second_row rows at)) (filter (λ at. opens_name o (opener_at rows at)) ats)
 unfolding line_at
-place_found o w rows zero at n = refl
-place_found o w rows (suc m) at n =
-    rw (declared_more, name_of)
-    (place_step (opens_name o (opener_at rows at)) (word_at rows (second_row rows at)) w (declared o (lines_at rows (next_row rows at) m)) n _ _
-    (place_found o w rows m (next_row rows at) (suc n)) (place_found o w rows m (next_row rows at) n))
+declared_rows o rows [] = refl
+declared_rows o rows (at ∷ ats) =
+    rw (declared_more, name_of, declared_rows o rows ats)
+    (elim (opens_name o (opener_at rows at))
+    as (λ b. in_front (cond b (Some (word_at rows (second_row rows at))) None) (map (λ q. word_at rows (second_row rows q)) (filter (λ q. opens_name o (opener_at rows q)) ats))
+    ≡ map (λ q. word_at rows (second_row rows q)) (cond b (at ∷ filter (λ q. opens_name o (opener_at rows q)) ats) (filter (λ q. opens_name o (opener_at rows q)) ats)))
+    [ true ↦ refl | false ↦ refl ])
 
-from_zero : (o : Option ℕ) → changed (λ k. 0 + k) o ≡ o
-from_zero None = refl
-from_zero (Some k) = ap Some (zero-add k)
-
-pub found_place : (o : Opener) (w : Word) (rows : List Row) (m at : ℕ) → place_at o w rows m at 0 ≡ found w (declared o (lines_at rows at m))
-found_place o w rows m at = place_found o w rows m at 0 ∙ from_zero (found w (declared o (lines_at rows at m)))
+-- The place of a word among what f reads at some rows.
+pub position_read : (f : ℕ → Word) (w : Word) (ats : List ℕ) → position (λ at. same (f at) w) ats ≡ found w (map f ats)
+position_read f w [] = refl
+position_read f w (at ∷ ats) =
+    position_more (λ q. same (f q) w) at ats ∙ ap (λ o. cond (same (f at) w) (Some 0) (changed suc o)) (position_read f w ats)
 
 -- The constant that the line at a row declares.
 constant_of : (rows : List Row) (at : ℕ) (p : Option Opener)
@@ -97,26 +84,23 @@ find_step : {A : Type 0} (b : Bool) (v w : Word) (x : A) (rs : List (Word × A))
 find_step true v w x rs = refl
 find_step false v w x rs = refl
 
--- A constant is found at the first line, or behind it.
-pub find_more : (w : Word) (rows : List Row) (m at i : ℕ) → i < m
-    → find (constants_in (lines_at rows at (m - i))) w
-    ≡ cond (is Const (line_at rows at))
-    (cond (same (word_at rows (second_row rows at)) w) (Some (word_value (digits_at rows (third_row rows at)))) (find (constants_in (lines_at rows (next_row rows at) (m - (i + 1)))) w))
-    (find (constants_in (lines_at rows (next_row rows at) (m - (i + 1)))) w)
+-- The constant of a name is that of the first row at which a line declares it.
+pub find_rows : (w : Word) (rows : List Row) (ats : List ℕ)
+    → find (constants_in (map (line_at rows) ats)) w
+    ≡ changed (λ at. word_value (digits_at rows (third_row rows at))) (find_first (declares_constant rows w) ats)
 unfolding line_at
-find_more w rows m at i h =
-    rw (lines_more rows at m i h, constant_of)
-    (find_step (is Const (line_at rows at)) (word_at rows (second_row rows at)) w (word_value (digits_at rows (third_row rows at))) (constants_in (lines_at rows (next_row rows at) (m - (i + 1)))))
-
--- A name is found at the first line, or behind it.
-pub place_more : (o : Opener) (w : Word) (rows : List Row) (m at n i : ℕ) → i < m
-    → place_at o w rows (m - i) at n
-    ≡ cond (opens_name o (opener_at rows at))
-    (cond (same (word_at rows (second_row rows at)) w) (Some n) (place_at o w rows (m - (i + 1)) (next_row rows at) (n + 1)))
-    (place_at o w rows (m - (i + 1)) (next_row rows at) n)
-place_more o w rows m at n i h =
-    let e : m - i ≡ suc (m - (i + 1)) = omega arith in
-    rw (e, add-one n)
+find_rows w rows [] = refl
+find_rows w rows (at ∷ ats) =
+    rw (constant_of, find_step, find_rows w rows ats)
+    (elim (is Const (line_of rows at (opener_at rows at)))
+    as (λ b. cond b (cond (same (word_at rows (second_row rows at)) w) (Some (word_value (digits_at rows (third_row rows at)))) (changed (λ q. word_value (digits_at rows (third_row rows q))) (find_first (declares_constant rows w) ats))) (changed (λ q. word_value (digits_at rows (third_row rows q))) (find_first (declares_constant rows w) ats))
+    ≡ changed (λ q. word_value (digits_at rows (third_row rows q))) (cond (b && same (word_at rows (second_row rows at)) w) (Some at) (find_first (declares_constant rows w) ats))) [
+      | true ↦ elim (same (word_at rows (second_row rows at)) w)
+          as (λ c. cond c (Some (word_value (digits_at rows (third_row rows at)))) (changed (λ q. word_value (digits_at rows (third_row rows q))) (find_first (declares_constant rows w) ats))
+          ≡ changed (λ q. word_value (digits_at rows (third_row rows q))) (cond c (Some at) (find_first (declares_constant rows w) ats)))
+          [ true ↦ refl | false ↦ refl ]
+      | false ↦ refl
+    ])
 
 -- The place of a word that is among others is below their number.
 pub found_below : (w : Word) (ws : List Word) (n : ℕ) → found w ws ≡ Some n → n < length ws

@@ -1,10 +1,9 @@
 -- Names looked up line by line.
-use Rattle.std.specs.Prelude.{ℕ, zero, suc, Bool, true, false, cond, ◌&&◌, List, Some, None, Option, ◌==◌}
-use Rattle.text.specs.Sheet.{next_row}
+use Rattle.std.specs.Prelude.{ℕ, Bool, true, false, ◌&&◌, List, Some, None, Option, ◌==◌}
 use Rattle.text.specs.declared.row.Row.{Row}
 use Rattle.language.specs.Basics.{Word, same}
-use Rattle.language.specs.Lines.{rank}
-use Rattle.language.specs.OnSheet.{word_at, second_row, opener_at}
+use Rattle.language.specs.Lines.{rank, is}
+use Rattle.language.specs.OnSheet.{word_at, second_row, line_at}
 use Rattle.language.specs.declared.house.Opener.{Opener}
 use Rattle.language.specs.declared.house.Opener.TheVariants.{Kind, Tact, Const, Cell, In, Out, Proc, State}
 
@@ -24,10 +23,6 @@ abbrev pub opens_name : Opener → Option Opener → Bool
 opens_name o None = false
 opens_name o (Some p) = has_name p && rank o == rank p
 
--- The place of a word among the names that m lines from a row on declare of a sort, counted from n.
-abbrev pub place_at : Opener → Word → List Row → ℕ → ℕ → ℕ → Option ℕ
-place_at o w rows zero at n = None
-place_at o w rows (suc m) at n =
-    cond (opens_name o (opener_at rows at))
-    (cond (same (word_at rows (second_row rows at)) w) (Some n) (place_at o w rows m (next_row rows at) (suc n)))
-    (place_at o w rows m (next_row rows at) n)
+-- The line at a row declares a constant by a name.
+abbrev pub declares_constant : List Row → Word → ℕ → Bool
+declares_constant rows w at = is Const (line_at rows at) && same (word_at rows (second_row rows at)) w

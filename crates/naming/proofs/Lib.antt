@@ -1,4 +1,3 @@
 mod Spots
-mod Walks
 mod Rivals
-mod Tests
+mod Splits

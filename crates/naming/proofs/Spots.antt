@@ -1,39 +1,38 @@
 -- Where lines stand on a sheet: the lines up to a spot, forwards and backwards, and the states right before it.
-use Rattle.std.proofs.Common.{◌≡◌, ℕ, zero, suc, ◌+◌, ◌-◌, ◌<◌, ◌≤◌, Bool, true, false, cond, List, [], ◌∷◌, ◌++◌, reverse, length, sym, refl, ap, ◌∙◌, subst, suc-add, zero-add, add-one, arith}
+use Rattle.std.proofs.Common.{◌≡◌, ℕ, zero, suc, ◌+◌, Bool, true, false, cond, List, [], ◌∷◌, map, ◌++◌, reverse, length, sym, refl, ap, ◌∙◌, suc-add, zero-add, add-one, arith}
 use mathlib.Core.List.{reverse-cons}
 use Rattle.text.specs.Sheet.{next_row}
+use Rattle.text.specs.declared.items.Items.{Items}
 use Rattle.text.specs.declared.row.Row.{Row}
 use Rattle.language.specs.Basics.{leading}
 use Rattle.language.specs.Named.{Line}
-use Rattle.language.specs.Lines.{is, own_states}
-use Rattle.language.specs.OnSheet.{line_at, lines_at}
+use Rattle.language.specs.Lines.{is, own_states, states_behind}
+use Rattle.language.specs.OnSheet.{line_at, lines_at, lines_of}
 use Rattle.language.specs.declared.house.Opener.TheVariants.{State}
-use Rattle.language.proofs.Lines.{lines_more, lines_length}
-use Rattle.naming.specs.Spots.{behind, back, spot_at}
-use Rattle.naming.specs.declared.spot.Spot.{Spot}
+use Rattle.naming.specs.Spots.{row_behind, rows_back, back, back_of, Stands}
 
 -- The row behind k lines from the next row on is the next row behind k lines.
-behind_next : (rows : List Row) (p k : ℕ) → behind rows (next_row rows p) k ≡ next_row rows (behind rows p k)
-behind_next rows p zero = refl
-behind_next rows p (suc k) = ap (next_row rows) (behind_next rows p k)
+row_behind_next : (rows : List Row) (p k : ℕ) → row_behind rows (next_row rows p) k ≡ next_row rows (row_behind rows p k)
+row_behind_next rows p zero = refl
+row_behind_next rows p (suc k) = ap (next_row rows) (row_behind_next rows p k)
 
 -- Lines, and those behind them.
-pub lines_join : (rows : List Row) (p j k : ℕ) → lines_at rows p (j + k) ≡ lines_at rows p j ++ lines_at rows (behind rows p j) k
+pub lines_join : (rows : List Row) (p j k : ℕ) → lines_at rows p (j + k) ≡ lines_at rows p j ++ lines_at rows (row_behind rows p j) k
 lines_join rows p zero k = ap (lines_at rows p) (zero-add k)
 lines_join rows p (suc j) k =
     ap (lines_at rows p) (suc-add j k)
     ∙ ap (λ ls. line_at rows p ∷ ls) (lines_join rows (next_row rows p) j k)
-    ∙ ap (λ q. line_at rows p ∷ (lines_at rows (next_row rows p) j ++ lines_at rows q k)) (behind_next rows p j)
+    ∙ ap (λ q. line_at rows p ∷ (lines_at rows (next_row rows p) j ++ lines_at rows q k)) (row_behind_next rows p j)
 
-pub lines_last : (rows : List Row) (p k : ℕ) → lines_at rows p (suc k) ≡ lines_at rows p k ++ line_at rows (behind rows p k) ∷ []
+pub lines_last : (rows : List Row) (p k : ℕ) → lines_at rows p (suc k) ≡ lines_at rows p k ++ line_at rows (row_behind rows p k) ∷ []
 lines_last rows p k = ap (lines_at rows p) (sym (add-one k)) ∙ lines_join rows p k 1
 
 -- Backwards and turned round, they are the lines.
 pub back_reversed : (rows : List Row) (p k : ℕ) → reverse (back rows p k) ≡ lines_at rows p k
 back_reversed rows p zero = refl
 back_reversed rows p (suc k) =
-    reverse-cons (line_at rows (behind rows p k)) (back rows p k)
-    ∙ ap (λ ls. ls ++ line_at rows (behind rows p k) ∷ []) (back_reversed rows p k)
+    reverse-cons (line_at rows (row_behind rows p k)) (back rows p k)
+    ∙ ap (λ ls. ls ++ line_at rows (row_behind rows p k) ∷ []) (back_reversed rows p k)
     ∙ sym (lines_last rows p k)
 
 -- The leading ones of lines are as many lines.
@@ -44,75 +43,71 @@ leading_lines t rows p (suc k) =
     as (λ b. cond b (line_at rows p ∷ leading t (lines_at rows (next_row rows p) k)) [] ≡ lines_at rows p (length (cond b (line_at rows p ∷ leading t (lines_at rows (next_row rows p) k)) [])))
     [ true ↦ ap (λ ls. line_at rows p ∷ ls) (leading_lines t rows (next_row rows p) k) | false ↦ refl ]
 
--- What is true of the spot of line i: its row, and that the states right before it are those that it has.
-pub record Stands (rows : List Row) (i : ℕ) (s : Spot) : Type 0 where
-  pub there : s.at ≡ behind rows 0 i
-  pub follows : s.at ≡ behind rows s.first s.states
-  pub few : s.states ≤ i
-  pub run : leading (is State) (back rows 0 i) ≡ back rows s.first s.states
+-- The leading ones of what f reads.
+leading_map : {A : Type 0} (t : A → Bool) (f : ℕ → A) (ats : List ℕ) → leading t (map f ats) ≡ map f (leading (λ at. t (f at)) ats)
+leading_map t f [] = refl
+leading_map t f (at ∷ ats) =
+    elim (t (f at)) as (λ b. cond b (f at ∷ leading t (map f ats)) [] ≡ map f (cond b (at ∷ leading (λ q. t (f q)) ats) []))
+    [ true ↦ ap (λ ls. f at ∷ ls) (leading_map t f ats) | false ↦ refl ]
 
--- The states right before the line behind: one more behind a state, else none.
-run_next : (rows : List Row) (i : ℕ) (s : Spot) (b : Bool) → is State (line_at rows s.at) ≡ b → Stands rows i s
-    → leading (is State) (back rows 0 (suc i)) ≡ cond b (line_at rows s.at ∷ back rows s.first s.states) []
-run_next rows i s b e h =
-    ap (λ q. leading (is State) (line_at rows q ∷ back rows 0 i)) (sym h.there)
-    ∙ ap (λ ls. cond (is State (line_at rows s.at)) (line_at rows s.at ∷ ls) []) h.run
-    ∙ ap (λ t. cond t (line_at rows s.at ∷ back rows s.first s.states) []) e
+-- The states that end the lines before a spot.
+pub states_run : (before states : Items) (at : ℕ) → Stands before states at → leading (is State) (back_of before) ≡ back_of states
+states_run before states at s =
+    leading_map (is State) (line_at before.rows.now) (rows_back before.rows.now before.first before.count)
+    ∙ ap (map (line_at before.rows.now)) s.run
+    ∙ ap (λ q. back q states.first states.count) (sym s.one_sheet)
 
-stands_next : (rows : List Row) (i : ℕ) (s : Spot) (b : Bool) → is State (line_at rows s.at) ≡ b → Stands rows i s
-    → Stands rows (suc i) (cond b (record { at = next_row rows s.at; first = s.first; states = s.states + 1 }) (record { at = next_row rows s.at; first = next_row rows s.at; states = 0 }))
-stands_next rows i s true e h = record {
-  there = ap (next_row rows) h.there;
-  follows = ap (next_row rows) h.follows ∙ ap (behind rows s.first) (sym (add-one s.states));
-  few = omega arith;
-  run =
-      run_next rows i s true e h
-      ∙ ap (λ q. line_at rows q ∷ back rows s.first s.states) h.follows
-      ∙ ap (back rows s.first) (sym (add-one s.states));
-}
-stands_next rows i s false e h = record {
-  there = ap (next_row rows) h.there;
-  follows = refl;
-  few = omega arith;
-  run = run_next rows i s false e h;
-}
+-- The rows of the states right before the line behind: one more behind a state, else none.
+run_next : (rows : List Row) (p n f k at : ℕ) (b : Bool) → b ≡ is State (line_at rows at) → at ≡ row_behind rows p n
+    → leading (λ q. is State (line_at rows q)) (rows_back rows p n) ≡ rows_back rows f k
+    → leading (λ q. is State (line_at rows q)) (rows_back rows p (suc n)) ≡ cond b (at ∷ rows_back rows f k) []
+run_next rows p n f k at b e there run =
+    ap (λ q. leading (λ q. is State (line_at rows q)) (q ∷ rows_back rows p n)) (sym there)
+    ∙ ap (λ ls. cond (is State (line_at rows at)) (at ∷ ls) []) run
+    ∙ ap (λ t. cond t (at ∷ rows_back rows f k) []) (sym e)
 
-at_spot : (rows : List Row) (i : ℕ) → Stands rows i (spot_at rows i)
-at_spot rows zero = record { there = refl; follows = refl; few = omega arith; run = refl }
-at_spot rows (suc i) = stands_next rows i (spot_at rows i) (is State (line_at rows (spot_at rows i).at)) refl (at_spot rows i)
+module _ (before states : Items) (at : ℕ) (s : Stands before states at) where
+  -- On past a state, and past another line.
+  pub stands_state : (before' states' : Items) (q : ℕ) → true ≡ is State (line_at before.rows.now at) → q ≡ next_row before.rows.now at
+      → before'.rows.now ≡ before.rows.now → before'.first ≡ before.first → before'.count ≡ before.count + 1
+      → states'.rows.now ≡ states.rows.now → states'.first ≡ states.first → states'.count ≡ states.count + 1 → Stands before' states' q
+  stands_state before' states' q e n r f c r' f' c' = record {
+    one_sheet = r' ∙ s.one_sheet ∙ sym r;
+    there = rw (r, f, c, add-one) (n ∙ ap (next_row before.rows.now) s.there);
+    follows = rw (r, f', c', add-one) (n ∙ ap (next_row before.rows.now) s.follows);
+    few = omega (arith, s.few);
+    run =
+        rw (r, f, c, f', c', add-one before.count, add-one states.count)
+        (run_next before.rows.now before.first before.count states.first states.count at true e s.there s.run
+        ∙ ap (λ p. p ∷ rows_back before.rows.now states.first states.count) s.follows);
+  }
 
-pub stands : (rows : List Row) (i : ℕ) (s : Spot) → s ≡ spot_at rows i → Stands rows i s
-stands rows i s e = subst (Stands rows i) (sym e) (at_spot rows i)
+  pub stands_other : (before' states' : Items) (q : ℕ) → false ≡ is State (line_at before.rows.now at) → q ≡ next_row before.rows.now at
+      → before'.rows.now ≡ before.rows.now → before'.first ≡ before.first → before'.count ≡ before.count + 1
+      → states'.rows.now ≡ before.rows.now → states'.first ≡ q → states'.count ≡ 0 → Stands before' states' q
+  stands_other before' states' q e n r f c r' f' c' = record {
+    one_sheet = r' ∙ sym r;
+    there = rw (r, f, c, add-one) (n ∙ ap (next_row before.rows.now) s.there);
+    follows = rw (f', c');
+    few = omega arith;
+    run = rw (r, f, c, c', add-one before.count) (run_next before.rows.now before.first before.count states.first states.count at false e s.there s.run);
+  }
 
--- Of m lines i are passed: how many of the others lead by a test.
-pub leading_more : (t : Line → Bool) (rows : List Row) (at m i : ℕ) → i < m
-    → length (leading t (lines_at rows at (m - i))) ≡ cond (t (line_at rows at)) (suc (length (leading t (lines_at rows (next_row rows at) (m - (i + 1)))))) 0
-leading_more t rows at m i h =
-    ap (λ ls. length (leading t ls)) (lines_more rows at m i h)
-    ∙ elim (t (line_at rows at))
-    as (λ b. length (cond b (line_at rows at ∷ leading t (lines_at rows (next_row rows at) (m - (i + 1)))) []) ≡ cond b (suc (length (leading t (lines_at rows (next_row rows at) (m - (i + 1)))))) 0)
-    [ true ↦ refl | false ↦ refl ]
-
-leading_below : (t : Line → Bool) (ls : List Line) → length (leading t ls) ≤ length ls
-leading_below t [] = omega arith
-leading_below t (l ∷ ls) =
-    elim (t l) as (λ b. length (cond b (l ∷ leading t ls) []) ≤ suc (length ls)) [ true ↦ omega (arith, leading_below t ls) | false ↦ omega arith ]
-
--- No more lines lead than there are.
-pub leading_few : (t : Line → Bool) (rows : List Row) (at m : ℕ) → length (leading t (lines_at rows at m)) ≤ m
-leading_few t rows at m = omega (arith, leading_below t (lines_at rows at m), lines_length rows at m)
-
--- The states of a state's process are the lines from its first state on: those right before it, and as many as lead from it on.
-pub own_lines : (rows : List Row) (m i : ℕ) (s : Spot) → i < m → s ≡ spot_at rows i → true ≡ is State (line_at rows s.at)
-    → own_states (back rows 0 i) (line_at rows s.at) (lines_at rows (next_row rows s.at) (m - (i + 1)))
-    ≡ lines_at rows s.first (s.states + length (leading (is State) (lines_at rows s.at (m - i))))
-own_lines rows m i s h p e =
-    let behind-it = leading (is State) (lines_at rows (next_row rows s.at) (m - (i + 1))) in
-    let from-it = leading (is State) (lines_at rows s.at (m - i)) in
-    let st = stands rows i s p in
-    let own : line_at rows s.at ∷ behind-it ≡ from-it =
-    ap (λ b. cond b (line_at rows s.at ∷ behind-it) []) e ∙ ap (leading (is State)) (sym (lines_more rows s.at m i h)) in
-    ap (λ ls. reverse ls ++ (line_at rows s.at ∷ behind-it)) st.run
-    ∙ ap (λ ls. ls ++ (line_at rows s.at ∷ behind-it)) (back_reversed rows s.first s.states)
-    ∙ ap (λ ls. lines_at rows s.first s.states ++ ls) (own ∙ leading_lines (is State) rows s.at (m - i) ∙ ap (λ q. lines_at rows q (length from-it)) st.follows)
-    ∙ sym (lines_join rows s.first s.states (length from-it))
+-- The states of a line's process are those right before it, the line, and as many as lead behind it.
+pub own_lines : (before states behind : Items) (at : ℕ) → Stands before states at → behind.rows.now ≡ before.rows.now → behind.first ≡ next_row before.rows.now at
+    → own_states (back_of before) (line_at before.rows.now at) (lines_of behind)
+    ≡ lines_at states.rows.now states.first (states.count + 1 + length (states_behind (lines_of behind)))
+own_lines before states behind at s r n =
+    let rows = before.rows.now in
+    let k = length (states_behind (lines_of behind)) in
+    let led : states_behind (lines_of behind) ≡ lines_at rows (next_row rows at) k =
+    leading_lines (is State) behind.rows.now behind.first behind.count ∙ ap (λ q. lines_at q behind.first k) r ∙ ap (λ q. lines_at rows q k) n in
+    let m : states.count + suc k ≡ states.count + 1 + k = omega arith in
+    ap (λ ls. reverse ls ++ (line_at rows at ∷ states_behind (lines_of behind))) (states_run before states at s)
+    ∙ ap (λ ls. ls ++ (line_at rows at ∷ states_behind (lines_of behind))) (back_reversed states.rows.now states.first states.count)
+    ∙ ap (λ q. lines_at q states.first states.count ++ (line_at rows at ∷ states_behind (lines_of behind))) s.one_sheet
+    ∙ ap (λ ls. lines_at rows states.first states.count ++ (line_at rows at ∷ ls)) led
+    ∙ ap (λ q. lines_at rows states.first states.count ++ lines_at rows q (suc k)) s.follows
+    ∙ sym (lines_join rows states.first states.count (suc k))
+    ∙ ap (lines_at rows states.first) m
+    ∙ ap (λ q. lines_at q states.first (states.count + 1 + k)) (sym s.one_sheet)

@@ -1,3 +1,4 @@
 pub mod Spots
+pub mod Splits
 pub mod Rivals
 pub mod Scopes

@@ -2,31 +2,24 @@
 ghost use Rattle.std.specs.Prelude.{◌≡◌, ◌&&◌, List, [], length, ◌==◌};
 ghost use Rattle.language.specs.Causes.{first_next_in_last};
 ghost use Rattle.language.specs.Lines.{body, states_behind};
-ghost use Rattle.language.specs.OnSheet.{act_at, act_of, acts_of, change_of, term_at, line_at, lines_at};
+ghost use Rattle.language.specs.OnSheet.{act_at, act_of, acts_in, change_of, term_at, line_at, lines_of};
 ghost use Rattle.language.specs.Resolve.{has_next};
-ghost use Rattle.text.specs.Sheet.{next_row};
+ghost use Rattle.naming.specs.Splits.{line_of};
 ghost use Rattle.text.specs.declared.row.Row.{Row};
 
-use crate::spot::{DEPTH, first_spot, line_number, next_spot, states_from};
+use crate::spot::{DEPTH, Spot, Spots};
 use language::house::Opener;
-use language::line::is_line;
-use language::view::{ActView, Change, act_view, count_at, third_row};
-use text::row::{Row, next_row};
+use language::line::{body_at, is_line};
+use language::view::{ActView, Change, act_view};
+use lookup::count_states;
+use text::items::Items;
+use text::row::Row;
 
 // Whether a statement that sets a state or a clock is a `next`.
 fn is_next(change: Change) -> bool
     ensures { (sheet : List Row) → result ≡ has_next (change_of sheet change) }
 {
-    match change {
-        Change::Next => true,
-        Change::Go(_) => false,
-        Change::Start(_) => false,
-        Change::Restart => false,
-        Change::Stop(_) => false,
-        Change::Halt => false,
-        Change::Fail => false,
-        Change::Reset => false,
-    }
+    matches!(change, Change::Next)
 }
 
 // Whether a statement has a `next`, its parts read at most so deep.
@@ -35,13 +28,11 @@ fn view_has_next(rows: &[Row], view: ActView, left: usize) -> bool
     ensures { result ≡ has_next (act_of rows.now (term_at left rows.now) (act_at left rows.now) view) }
 {
     match view {
-        ActView::Put(_, _) => false,
-        ActView::When(_, s) => has_next(rows, s, left),
+        ActView::When(_, s) | ActView::After(_, s) => has_next(rows, s, left),
         ActView::Choose(_, s, t) => has_next(rows, s, left) || has_next(rows, t, left),
-        ActView::Do(first, count) => have_next(rows, first, count, left),
-        ActView::After(_, s) => has_next(rows, s, left),
+        ActView::Do(first, count) => have_next(Items { rows, first, count }, left),
         ActView::Set(change) => is_next(change),
-        ActView::Odd => false,
+        ActView::Put(_, _) | ActView::Odd => false,
     }
 }
 
@@ -57,17 +48,15 @@ fn has_next(rows: &[Row], at: usize, left: usize) -> bool
     }
 }
 
-// Whether one of so many statements from a row on has one.
+// Whether one of some statements has one.
 #[cycle(has_next_have_next_view_has_next)]
-fn have_next(rows: &[Row], first: usize, count: usize, left: usize) -> bool
-    ensures { result ≡ has_next (acts_of (act_at left rows.now) rows.now first count) }
+fn have_next(acts: Items, left: usize) -> bool
+    ensures { result ≡ has_next (acts_in (act_at left acts.entry.rows.now) acts.entry) }
 {
-    let mut at = first;
-    for _ in 0..count {
-        if has_next(rows, at, left) {
+    for at in acts.iter() {
+        if has_next(acts.rows, at, left) {
             return true;
         }
-        at = next_row(rows, at);
     }
     false
 }
@@ -77,35 +66,21 @@ fn have_next(rows: &[Row], first: usize, count: usize, left: usize) -> bool
 fn line_has_next(rows: &[Row], at: usize) -> bool
     ensures { result ≡ has_next (body (line_at rows.now at)) }
 {
-    if is_line(rows, at, Opener::State) {
-        have_next(
-            rows,
-            third_row(rows, at),
-            count_at(rows, at).saturating_sub(2),
-            DEPTH,
-        )
-    } else {
-        false
-    }
+    is_line(rows, at, Opener::State) && have_next(body_at(rows, at), DEPTH)
 }
 
-// Whether the line at a row has a `next` and no state right behind it, where `left` lines follow.
-fn is_past_last(rows: &[Row], at: usize, left: usize) -> bool
-    ensures { result ≡ (has_next (body (line_at rows.now at)) && length (states_behind (lines_at rows.now (next_row rows.now at) left)) == 0) }
+// Whether a line has a `next` and no state right behind it.
+fn is_past_last(spot: Spot) -> bool
+    ensures { result ≡ (has_next (body (line_of spot.entry)) && length (states_behind (lines_of spot.entry.behind)) == 0) }
 {
-    line_has_next(rows, at) && states_from(rows, next_row(rows, at), left) == 0
+    line_has_next(spot.before.rows, spot.at) && count_states(spot.behind) == 0
 }
 
 // The first line with `next` in its process's last state.
-pub fn first_next_in_last(rows: &[Row], lines: usize) -> Option<usize>
-    ensures { result ≡ first_next_in_last [] (lines_at rows.now 0 lines) }
+pub fn first_next_in_last(lines: Items) -> Option<usize>
+    ensures { result ≡ first_next_in_last [] (lines_of lines.entry) }
 {
-    let mut spot = first_spot();
-    for i in 0..lines {
-        if is_past_last(rows, spot.at, lines - (i + 1)) {
-            return Some(line_number(i));
-        }
-        spot = next_spot(rows, spot);
-    }
-    None
+    Spots::of(lines)
+        .position(|spot| is_past_last(spot))
+        .map(|i| i + 1)
 }

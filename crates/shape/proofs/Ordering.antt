@@ -113,6 +113,6 @@ map_map : {A B C : Type 0} (f : B → C) (g : A → B) (xs : List A) → map f (
 map_map f g [] = refl
 map_map f g (x ∷ xs) = ap (λ ys. f (g x) ∷ ys) (map_map f g xs)
 
-pub unfit_lines : (rows : List Row) (m : ℕ) → unfit_from 1 None (map (sort_at rows) (starts rows 0 m)) ≡ first_unfit (forms_at rows 0 m) []
-unfit_lines rows m =
-    sym (unfit_where 1 [] (map line (forms_at rows 0 m)) refl ∙ ap (unfit_from 1 None) (ap (map (changed sort)) (map_map line (form_at 13 rows) (starts rows 0 m)) ∙ map_map (changed sort) (λ q. line (form_at 13 rows q)) (starts rows 0 m)))
+pub unfit_lines : (rows : List Row) (p m : ℕ) → unfit_from 1 None (map (sort_at rows) (starts rows p m)) ≡ first_unfit (forms_at rows p m) []
+unfit_lines rows p m =
+    sym (unfit_where 1 [] (map line (forms_at rows p m)) refl ∙ ap (unfit_from 1 None) (ap (map (changed sort)) (map_map line (form_at 13 rows) (starts rows p m)) ∙ map_map (changed sort) (λ q. line (form_at 13 rows q)) (starts rows p m)))

@@ -1,13 +1,12 @@
 // Whether each line stands where a line of its sort may stand.
 ghost use Rattle.std.specs.Prelude.{◌≡◌, []};
-ghost use Rattle.text.specs.Sheet.{forms_at};
+ghost use Rattle.text.specs.Items.{forms_of};
 ghost use Rattle.language.specs.Causes.{first_unfit};
 ghost use Rattle.shape.specs.Places.{misplaced, later};
 
 use crate::item::line_at;
 use language::house::Opener;
 use text::items::Items;
-use text::row::Row;
 
 // Whether a line may not stand behind lines of which `latest` is the last in the order of sorts: kind and tact stand once,
 // a state behind a process, a process anywhere behind, all else in the order of sorts.
@@ -30,17 +29,12 @@ fn later(latest: Option<Opener>, opener: Opener) -> Option<Opener>
 }
 
 // The first line, counted from 1, that is no form of the language or is out of its place.
-pub fn first_unfit(rows: &[Row], lines: usize) -> Option<usize>
-    ensures { result ≡ first_unfit (forms_at rows.now 0 lines) [] }
+pub fn first_unfit(lines: Items) -> Option<usize>
+    ensures { result ≡ first_unfit (forms_of lines.entry) [] }
 {
-    let items = Items {
-        rows,
-        first: 0,
-        count: lines,
-    };
     let mut latest = None;
-    for (i, at) in items.iter().enumerate() {
-        match line_at(rows, at) {
+    for (i, at) in lines.iter().enumerate() {
+        match line_at(lines.rows, at) {
             Some(opener) if !misplaced(latest, opener) => latest = later(latest, opener),
             _ => return Some(i + 1),
         }

@@ -22,7 +22,8 @@ use Rattle.language.specs.declared.house.Enquiry.{Enquiry}
 use Rattle.language.specs.declared.house.Enquiry.TheVariants.{Active, Stopped, Failed, Passive}
 use Rattle.language.specs.declared.house.Opener.TheVariants.{State}
 use Rattle.language.proofs.Sizes.{term_sizes, act_sizes}
-use Rattle.translator.specs.Writing.{put_at, thing_source, target_instr, enquiry_put, term_put, act_put, states_size, processes_size, states_put, processes_put}
+use Rattle.language.specs.Pushes.{thing_source, target_instr}
+use Rattle.translator.specs.Writing.{put_at, enquiry_put, term_put, act_put, states_size, processes_size, states_put, processes_put}
 use Rattle.translator.specs.Front.{line_entries, process_entries}
 
 -- Instructions put one behind another, from place p on.

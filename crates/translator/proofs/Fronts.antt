@@ -1,23 +1,11 @@
 -- Words written one behind another.
-use Rattle.std.proofs.Common.{◌≡◌, ℕ, zero, suc, ◌+◌, ◌-◌, ◌*◌, ◌<◌, ◌≤◌, List, [], ◌∷◌, length, get_or, drop, set, ℤ, pos, sym, refl, ap, ◌∙◌, add-zero, arith}
-use Rattle.std.proofs.lemmas.List.{drop_more, drop_all}
+use Rattle.std.proofs.Common.{◌≡◌, ℕ, zero, suc, ◌+◌, ◌-◌, ◌*◌, ◌<◌, ◌≤◌, List, [], ◌∷◌, length, set, ℤ, pos, sym, refl, ap, ◌∙◌, add-zero, arith}
 use Rattle.language.specs.Named.{Line}
 use Rattle.language.specs.Lines.{body}
 use Rattle.language.specs.Sizes.{act_size}
 use Rattle.language.specs.Words.{padded, process_words}
 use Rattle.translator.specs.Writing.{states_size, processes_size}
 use Rattle.translator.specs.Front.{over, line_entries, process_entries}
-
--- One word more of some words that are written from word k on, and no word more.
-pub over_more : (k i : ℕ) (words ws all : List ℤ) (v : ℤ) → i < length words → v ≡ get_or words i (pos 0) → over (k + i) (drop i words) ws ≡ all
-    → over (k + (i + 1)) (drop (i + 1) words) (set ws (k + i) v) ≡ all
-over_more k i words ws all v h e f =
-    let d = drop_more words i (pos 0) h in
-    let m : k + i + 1 ≡ k + (i + 1) = omega arith in
-    rw (← m, e) (rw d at f)
-
-pub over_all : (k i : ℕ) (words ws all : List ℤ) → length words ≤ i → over (k + i) (drop i words) ws ≡ all → ws ≡ all
-over_all k i words ws all h f = let d = drop_all i words h in rw d at f
 
 -- Of the entries of the state lines `all`, whose bodies begin at place p, those behind the first i are left, from place q on.
 pub record EntriesGoing (all left : List Line) (w i p q : ℕ) (old new : List ℤ) : Type 0 where
@@ -84,9 +72,6 @@ fronts_room all left behind g p w old new f d a b e =
     let x = k.ended in
     let y = k.placed in
     (omega arith, omega arith)
-
-pub few_left : (r k i m : ℕ) → r ≤ k - i → k ≤ m → r ≤ m
-few_left r k i m a b = omega arith
 
 -- As many entries as state lines.
 pub entries_length : (ls : List Line) (p : ℕ) → length (line_entries p ls) ≡ length ls

@@ -10,3 +10,4 @@ mod Written
 pub mod Few
 pub mod Limited
 pub mod Outcomes
+pub mod Groups

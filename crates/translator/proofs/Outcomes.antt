@@ -17,8 +17,8 @@ use Rattle.language.specs.Resolve.{program}
 use Rattle.language.specs.Translation.{Answer, translation, judged, causes, name_causes, told_at, first_cause, unless_caused, fitted, answer_for}
 use Rattle.language.specs.Words.{words}
 use Rattle.translator.proofs.Limited.{small_program}
-use Rattle.checks.specs.Refusals.{refusal_number, refusal_line}
-use Rattle.translator.specs.Outcome.{Outcome, outcome, unread, refused}
+use Rattle.checks.specs.Refusals.{refusal_number, refusal_line, refusal_of}
+use Rattle.translator.specs.Outcome.{Outcome, outcome, refused}
 
 -- A refused outcome.
 abbrev pub turned_away : ℕ → ℕ → List ℤ → Outcome
@@ -26,7 +26,7 @@ turned_away n l code = record { told = refused n l; code = code }
 
 -- The sheet is too short for forms, or holds them.
 too_short : (f : Bool) (page : Page) (a : Answer) (code : List ℤ) (e : ReadRefusal) → Err e ≡ cond f (Ok page) (Err Short)
-    → turned_away (refusal_number (unread e)) (refusal_line (unread e)) code ≡ outcome (cond f a (Answer.refused 8 0)) code
+    → turned_away (refusal_number (refusal_of e)) (refusal_line (refusal_of e)) code ≡ outcome (cond f a (Answer.refused 8 0)) code
 too_short true page a code e h = let z : ◌≡◌ {A = ℕ} 0 1 = cc in absurd (omega arith)
 too_short false page a code e h = let s : e ≡ Short = cc in rw s
 
@@ -36,13 +36,13 @@ long_enough false page p a h = let z : ◌≡◌ {A = ℕ} 0 1 = cc in absurd (o
 
 -- The text could not be read onto the sheet.
 not_laid : (b : Bool) (x : Read) (len room : ℕ) (code : List ℤ) (e : ReadRefusal) → Err e ≡ cond b (Err Size) (laid_out x len)
-    → turned_away (refusal_number (unread e)) (refusal_line (unread e)) code ≡ outcome (cond b (Answer.refused 1 0) (judged len room x)) code
+    → turned_away (refusal_number (refusal_of e)) (refusal_line (refusal_of e)) code ≡ outcome (cond b (Answer.refused 1 0) (judged len room x)) code
 not_laid true x len room code e h = let s : e ≡ Size = cc in rw s
 not_laid false (wrong n) len room code e h = let s : e ≡ Line n = cc in rw s
 not_laid false (forms fs) len room code e h = too_short (leb (rows_in fs) len) _ (answer_for room fs (lines fs)) code e h
 
 pub unread_outcome : (text : List ℕ) (len room : ℕ) (code : List ℤ) (e : ReadRefusal) → Err e ≡ page_of text len
-    → turned_away (refusal_number (unread e)) (refusal_line (unread e)) code ≡ outcome (translation text len room) code
+    → turned_away (refusal_number (refusal_of e)) (refusal_line (refusal_of e)) code ≡ outcome (translation text len room) code
 unread_outcome text len room code e h = not_laid (eqb (length text) 0 || ltb 32768 (length text)) (read_text text) len room code e h
 
 -- The text was read as forms, and the sheet holds them.

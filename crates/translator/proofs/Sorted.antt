@@ -1,11 +1,10 @@
 -- What stands in a line, told by its sort.
-use Rattle.std.proofs.Common.{◌≡◌, ℕ, zero, suc, ◌+◌, ◌-◌, ◌<◌, ◌≤◌, Bool, true, false, cond, List, [], ◌∷◌, length, Some, None, Option, sym, refl, ap}
+use Rattle.std.proofs.Common.{◌≡◌, ℕ, zero, suc, ◌-◌, Bool, true, false, cond, List, [], ◌∷◌, length, Some, None, Option, sym, refl, ap}
 use borrow.Author.Tests.{clash}
 use Rattle.text.specs.Sheet.{next_row}
-use Rattle.language.proofs.Lines.{lines_more, lines_none}
 use Rattle.text.specs.declared.row.Row.{Row}
 use Rattle.language.specs.Named.{pass}
-use Rattle.language.specs.Lines.{is, body, states_behind, processes}
+use Rattle.language.specs.Lines.{is, body, states_behind}
 use Rattle.language.specs.OnSheet.{line_of, line_at, lines_at, opener_at, body_at, act_at, acts_of, third_row, count_at}
 use Rattle.language.specs.declared.house.Opener.{Opener}
 use Rattle.language.specs.declared.house.Opener.TheVariants.{Kind, Tact, Const, Cell, In, Out, Proc, State}
@@ -44,17 +43,6 @@ pub no_body : (rows : List Row) (at : ℕ) → is State (line_at rows at) ≡ fa
 unfolding line_at
 no_body rows at e = no_body_of rows at (opener_at rows at) e
 
--- How many states begin a list of lines.
-pub states_on : (rows : List Row) (at k i : ℕ) → i < k → true ≡ is State (line_at rows at)
-    → length (states_behind (lines_at rows at (k - i))) ≡ suc (length (states_behind (lines_at rows (next_row rows at) (k - (i + 1)))))
-states_on rows at k i h e = let q = lines_more rows at k i h in rw (q, ← e)
-
-pub states_end : (rows : List Row) (at k i : ℕ) → i < k → false ≡ is State (line_at rows at) → length (states_behind (lines_at rows at (k - i))) ≡ 0
-states_end rows at k i h e = let q = lines_more rows at k i h in rw (q, ← e)
-
-pub states_out : (rows : List Row) (at k i : ℕ) → k ≤ i → length (states_behind (lines_at rows at (k - i))) ≡ 0
-states_out rows at k i h = let q = lines_none rows at k i h in rw q
-
 states_are_by : (rows : List Row) (p m : ℕ) (b : Bool) → lines_at rows (next_row rows p) (length (states_behind (lines_at rows (next_row rows p) m))) ≡ states_behind (lines_at rows (next_row rows p) m)
     → lines_at rows p (length (cond b (line_at rows p ∷ states_behind (lines_at rows (next_row rows p) m)) [])) ≡ cond b (line_at rows p ∷ states_behind (lines_at rows (next_row rows p) m)) []
 states_are_by rows p m true e = ap (λ ls. line_at rows p ∷ ls) e
@@ -64,14 +52,3 @@ states_are_by rows p m false e = refl
 pub states_are : (rows : List Row) (p m : ℕ) → lines_at rows p (length (states_behind (lines_at rows p m))) ≡ states_behind (lines_at rows p m)
 states_are rows p zero = refl
 states_are rows p (suc m) = states_are_by rows p m (is State (line_at rows p)) (states_are rows (next_row rows p) m)
-
--- The processes of lines, by the first line.
-pub process_on : (rows : List Row) (at next k i s : ℕ) → i < k → next ≡ next_row rows at → true ≡ is Proc (line_at rows at) → s ≡ length (states_behind (lines_at rows next (k - (i + 1))))
-    → processes (lines_at rows at (k - i)) ≡ lines_at rows next s ∷ processes (lines_at rows next (k - (i + 1)))
-process_on rows at next k i s h g e f = let q = lines_more rows at k i h in let a = states_are rows next (k - (i + 1)) in rw (q, ← e, f, a, g)
-
-pub process_off : (rows : List Row) (at next k i : ℕ) → i < k → next ≡ next_row rows at → false ≡ is Proc (line_at rows at) → processes (lines_at rows at (k - i)) ≡ processes (lines_at rows next (k - (i + 1)))
-process_off rows at next k i h g e = let q = lines_more rows at k i h in rw (q, ← e, g)
-
-pub process_out : (rows : List Row) (at k i : ℕ) → k ≤ i → processes (lines_at rows at (k - i)) ≡ []
-process_out rows at k i h = let q = lines_none rows at k i h in rw q

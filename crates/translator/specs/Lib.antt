@@ -1,3 +1,4 @@
 pub mod Writing
 pub mod Front
 pub mod Outcome
+pub mod States

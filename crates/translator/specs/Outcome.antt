@@ -1,17 +1,8 @@
 -- What translate answers and leaves.
 use Rattle.std.specs.Prelude.{ℕ, List, ◌++◌, length, drop, ℤ, Ok, Err, Result}
-use Rattle.text.specs.declared.read.ReadRefusal.{ReadRefusal}
-use Rattle.text.specs.declared.read.ReadRefusal.TheVariants.{Size as TextSize, Line, Short}
 use Rattle.language.specs.Translation.{Answer}
 use Rattle.checks.specs.Refusals.{refusal_number, refusal_line}
 use Rattle.checks.specs.declared.refusal.Refusal.{Refusal}
-use Rattle.checks.specs.declared.refusal.Refusal.TheVariants.{Size, NoForm, ShortSheet}
-
--- The refusal of a text that could not be read.
-abbrev pub unread : ReadRefusal → Refusal
-unread TextSize = Size
-unread (Line n) = NoForm n
-unread Short = ShortSheet
 
 -- What translate answers: how many words it wrote and the bound, or a refusal's number and line.
 pub data Told : Type 0 where

@@ -12,22 +12,22 @@ use Rattle.language.specs.Numbers.{word_value, natural}
 use Rattle.language.specs.Named.{Line}
 use Rattle.language.specs.Named.{Term, number, named, two, isnt, both, either, ask}
 use Rattle.language.specs.Named.{Act, put, choose, when, pass, then, go, start, stop, next, restart, halt, fail, reset, after}
-use Rattle.text.specs.declared.row.Row.{Row}
 use Rattle.language.specs.Lines.{declared, body}
-use Rattle.language.specs.OnSheet.{lines_at}
+use Rattle.language.specs.OnSheet.{lines_at, lines_of}
 use Rattle.language.specs.Resolve.{Names, Spot, thing, target, process, expr, stmt, bodies, all_names}
+use Rattle.language.specs.Pushes.{thing_source, target_instr}
 use Rattle.language.specs.Compile.{longest, longest_of}
 use Rattle.language.specs.Program.{longest_body}
 use Rattle.language.specs.Sizes.{term_size, act_size}
 use Rattle.language.specs.Words.{encoded}
-use Rattle.language.specs.declared.names.Thing.{Thing}
-use Rattle.language.specs.declared.names.Thing.TheVariants.{Constant, Cell as CellThing, In as InThing, Out as OutThing}
-use Rattle.language.specs.declared.names.Target.{Target}
-use Rattle.language.specs.declared.names.Target.TheVariants.{Cell as CellTarget, Out as OutTarget}
+use Rattle.language.specs.declared.names.Thing.TheVariants.{Constant}
+use Rattle.language.specs.declared.names.Target.TheVariants.{Cell as CellTarget}
 use Rattle.language.specs.declared.house.Enquiry.{Enquiry}
 use Rattle.language.specs.declared.house.Enquiry.TheVariants as enquiry
 use Rattle.language.specs.declared.house.Opener.TheVariants.{State as StateLine}
-use Rattle.translator.specs.declared.statement.Site.{Site}
+use Rattle.translator.specs.declared.sheet.Sheet.{Sheet}
+use Rattle.translator.specs.declared.site.Site.{Site}
+use Rattle.translator.specs.declared.group.StateLines.{StateLines}
 
 -- The number that an instruction's operand is, 0 where it has none or a signed one.
 abbrev pub source_operand : Source → ℕ
@@ -63,17 +63,6 @@ operand (Set c) = control_operand c
 -- An instruction put at a place.
 unfoldable pub put_at : ℕ → Instr → List ℤ → List ℤ
 put_at p i ws = slice_set (slice_set ws (2 * p) (encoded i).0) (2 * p + 1) (encoded i).1
-
--- What a name pushes, and what puts a value under it.
-abbrev pub thing_source : Thing → Source
-thing_source (Constant v) = Lit v
-thing_source (CellThing i) = Cell i
-thing_source (InThing i) = In i
-thing_source (OutThing i) = Out i
-
-abbrev pub target_instr : Target → Instr
-target_instr (CellTarget i) = Keep i
-target_instr (OutTarget i) = Drive i
 
 -- A question about process q put from place p on.
 abbrev pub enquiry_put : ℕ → Enquiry → ℕ → List ℤ → List ℤ
@@ -143,20 +132,17 @@ abbrev pub processes_put : Names → ℕ → ℕ → List (List Line) → List �
 processes_put n q p [] ws = ws
 processes_put n q p (g ∷ gs) ws = processes_put n (suc q) (p + states_size g) gs (states_put n q (declared StateLine g) 0 p g ws)
 
--- What the lines of a sheet declare.
-abbrev pub names_at : List Row → ℕ → Names
-names_at rows lines = all_names (lines_at rows 0 lines)
+-- What the lines of a text declare.
+abbrev pub names_at : Sheet → Names
+names_at sheet = all_names (lines_of sheet.lines)
+
+-- The state lines of a process on a sheet.
+abbrev pub states_on : Sheet → StateLines → List Line
+states_on sheet states = lines_at sheet.lines.rows.now states.first states.count
 
 -- Where a statement on a sheet stands.
-abbrev pub spot_at : List Row → Site → Spot
-spot_at rows site = record { own = site.own; states = declared StateLine (lines_at rows site.first site.states); here = site.here }
-
--- The numbers there are those of a text's lines.
-pub record Near (site : Site) : Type 0 where
-  pub few_lines : site.lines ≤ 32768
-  pub few_processes : site.own ≤ 32768
-  pub few_states : site.states ≤ 32768
-  pub few_before : site.here ≤ 32768
+abbrev pub spot_at : Site → Spot
+spot_at site = record { own = site.own; states = declared StateLine (states_on site.sheet site.states); here = site.here }
 
 -- An expression was put from place p on; r has the place behind it and the longest way through it.
 pub record TermEmitted (n : Names) (t : Term) (p : ℕ) (old new : List ℤ) (r : ℕ × ℕ) : Type 0 where

@@ -1,18 +1,22 @@
 // The words in front of the instructions: the head, and seventeen for each process.
-ghost use Rattle.std.specs.Prelude.{◌≡◌, ◌+◌, ◌*◌, ◌≤◌, [], ◌∷◌, length, pos, if◌then◌else◌, nat_lt};
+ghost use Rattle.std.specs.List.{find};
+ghost use Rattle.std.specs.Prelude.{◌≡◌, ◌+◌, ◌*◌, ◌≤◌, [], ◌∷◌, length, pos};
 ghost use Rattle.language.specs.Basics.{count, otherwise, and_then};
 ghost use Rattle.language.specs.Grammar.{kind_named};
 ghost use Rattle.language.specs.Lines.{is, rank, declared, processes as processes_of};
-ghost use Rattle.language.specs.OnSheet.{lines_at, house_at};
+ghost use Rattle.language.specs.OnSheet.{line_at, lines_of, house_at};
+ghost use Rattle.text.specs.Items.{starts_of};
 ghost use Rattle.language.specs.Words.{padded, process_words, kind_number, period};
-ghost use Rattle.translator.specs.Writing.{states_size, processes_size};
+ghost use Rattle.translator.specs.Writing.{states_on, states_size, processes_size};
 ghost use Rattle.translator.specs.Front.{over, line_entries, process_entries, kind_at, head_words, front_words};
 
-use crate::meaning::number_at;
-use crate::process::{count_states, line_size, size_states};
+use crate::group::StateLines;
+use crate::process::{line_size, size_states};
+use crate::sheet::Sheet;
 use language::house::{House, Opener};
 use language::line::is_line;
 use language::view::{house_at, opener_at, second_row};
+use measure::value::number_at;
 use text::row::{Row, next_row};
 
 // How many words the head has, and how many entries the words of a process.
@@ -21,19 +25,24 @@ pub(crate) const HEAD: usize = 7;
 pub(crate) const ENTRIES: usize = 16;
 
 // How many lines are of a sort.
-fn count_lines(rows: &[Row], lines: usize, opener: Opener) -> usize
-    ensures is { result ≡ count (is opener) (lines_at rows.now 0 lines) }
-    ensures within { result ≤ lines }
+fn count_lines(sheet: Sheet, opener: Opener) -> usize
+    ensures is { result ≡ count (is opener) (lines_of sheet.entry.lines) }
+    ensures within { result ≤ sheet.entry.lines.count }
 {
-    let mut at = 0;
-    let mut found = 0;
-    for _i in 0..lines {
-        if is_line(rows, at, opener) {
-            found += 1;
-        }
-        at = next_row(rows, at);
-    }
-    found
+    let rows = sheet.lines.rows;
+    sheet
+        .lines
+        .iter()
+        .filter(|at| is_line(rows, *at, opener))
+        .count()
+}
+
+// The row of the first line of a sort.
+fn first_line(sheet: Sheet, opener: Opener) -> Option<usize>
+    ensures { result ≡ find (λ at. is opener (line_at sheet.entry.lines.rows.now at)) (starts_of sheet.entry.lines) }
+{
+    let rows = sheet.lines.rows;
+    sheet.lines.iter().find(|at| is_line(rows, *at, opener))
 }
 
 // The number of the kind that the word at a row names, or 0.
@@ -41,11 +50,8 @@ fn kind_named(rows: &[Row], at: usize) -> i32
     ensures { result ≡ otherwise (pos 0) (and_then (house_at rows.now at) kind_named) }
 {
     match house_at(rows, at) {
-        Some(House::KindName(kind)) => kind,
-        Some(House::Opens(_)) => 0,
-        Some(House::Expression(_)) => 0,
-        Some(House::Statement(_)) => 0,
-        None => 0,
+        Some(House::KindName(kind)) => i32::from(kind),
+        _ => 0,
     }
 }
 
@@ -60,54 +66,45 @@ fn kind_at(rows: &[Row], at: usize) -> i32
 }
 
 // The number of the kind that lines name.
-fn kind_number(rows: &[Row], lines: usize) -> i32
-    ensures { result ≡ kind_number (lines_at rows.now 0 lines) }
+fn kind_number(sheet: Sheet) -> i32
+    ensures { result ≡ kind_number (lines_of sheet.entry.lines) }
 {
-    let mut at = 0;
-    for _i in 0..lines {
-        if is_line(rows, at, Opener::Kind) {
-            return kind_at(rows, at);
-        }
-        at = next_row(rows, at);
-    }
-    0
+    let Some(at) = first_line(sheet, Opener::Kind) else {
+        return 0;
+    };
+    kind_at(sheet.lines.rows, at)
 }
 
 // The period that lines give.
-fn period(rows: &[Row], lines: usize) -> i32
-    ensures { result ≡ period (lines_at rows.now 0 lines) }
+fn period(sheet: Sheet) -> i32
+    ensures { result ≡ period (lines_of sheet.entry.lines) }
 {
-    let mut at = 0;
-    for _i in 0..lines {
-        if is_line(rows, at, Opener::Tact) {
-            return number_at(rows, second_row(rows, at));
-        }
-        at = next_row(rows, at);
-    }
-    0
+    let Some(at) = first_line(sheet, Opener::Tact) else {
+        return 0;
+    };
+    let rows = sheet.lines.rows;
+    number_at(rows, second_row(rows, at))
 }
 
 // How many names lines of a sort declare, as a word.
-fn names_word(rows: &[Row], lines: usize, opener: Opener) -> i32
-    requires few { lines ≤ 32768 }
+fn names_word(sheet: Sheet, opener: Opener) -> i32
     requires named { 3 ≤ rank opener }
-    ensures { result ≡ pos (length (declared opener (lines_at rows.now 0 lines))) }
+    ensures { result ≡ pos (length (declared opener (lines_of sheet.entry.lines))) }
 {
-    count_lines(rows, lines, opener) as i32
+    count_lines(sheet, opener) as i32
 }
 
 // The seven words of the head, for so many processes and instructions.
-fn head_words(rows: &[Row], lines: usize, processes: usize, instructions: usize) -> [i32; 7]
-    requires few { lines ≤ 32768 }
+fn head_words(sheet: Sheet, processes: usize, instructions: usize) -> [i32; 7]
     requires counted { processes ≤ 32768 }
     requires small { instructions ≤ 4096 }
-    ensures { result ≡ head_words (lines_at rows.now 0 lines) processes instructions }
+    ensures { result ≡ head_words (lines_of sheet.entry.lines) processes instructions }
 {
-    let kind = kind_number(rows, lines);
-    let tact = period(rows, lines);
-    let cells = names_word(rows, lines, Opener::Cell);
-    let inputs = names_word(rows, lines, Opener::In);
-    let outputs = names_word(rows, lines, Opener::Out);
+    let kind = kind_number(sheet);
+    let tact = period(sheet);
+    let cells = names_word(sheet, Opener::Cell);
+    let inputs = names_word(sheet, Opener::In);
+    let outputs = names_word(sheet, Opener::Out);
     [
         kind,
         tact,
@@ -119,103 +116,70 @@ fn head_words(rows: &[Row], lines: usize, processes: usize, instructions: usize)
     ]
 }
 
-// Writes words over those of a code, from a word on.
-fn write_words(words: &[i32], code: &mut [i32], from: usize)
-    requires { from + length words.now ≤ length code.old }
-    ensures { code.new ≡ over from words.now code.old }
-{
-    for (i, word) in words.iter().enumerate() {
-        code[from + i] = *word;
-    }
-}
-
 // Writes the head of a code for so many processes and instructions.
-fn write_head(rows: &[Row], lines: usize, processes: usize, instructions: usize, code: &mut [i32])
-    requires few { lines ≤ 32768 }
+fn write_head(sheet: Sheet, processes: usize, instructions: usize, code: &mut [i32])
     requires counted { processes ≤ 32768 }
     requires small { instructions ≤ 4096 }
     requires room { 7 ≤ length code.old }
-    ensures { code.new ≡ over 0 (head_words (lines_at rows.now 0 lines) processes instructions) code.old }
+    ensures { code.new ≡ over 0 (head_words (lines_of sheet.entry.lines) processes instructions) code.old }
 {
-    let words = head_words(rows, lines, processes, instructions);
-    write_words(&words, code, 0);
+    let words = head_words(sheet, processes, instructions);
+    code[..HEAD].copy_from_slice(&words);
 }
 
-// The word of entry i of so many, for a body at a place; an unused one is 0.
-fn entry_word(i: usize, states: usize, place: usize) -> i32
-    requires { place ≤ 4096 }
-    ensures { result ≡ (if nat_lt i states then pos place else pos 0) }
-{
-    if i < states { place as i32 } else { 0 }
-}
-
-// Writes the entries of so many states from a row on, whose bodies begin at place p, and 0 for each unused one, from word w on.
-fn write_entries(rows: &[Row], first: usize, states: usize, p: usize, code: &mut [i32], w: usize)
-    requires small { p + states_size (lines_at rows.now first states) ≤ 4096 }
+// Writes the entries of a process's states, whose bodies begin at place p, and 0 for each unused one, from word w on.
+fn write_entries(sheet: Sheet, states: StateLines, p: usize, code: &mut [i32], w: usize)
+    requires small { p + states_size (states_on sheet states) ≤ 4096 }
     requires room { w + 16 ≤ length code.old }
-    ensures { code.new ≡ over w (padded 16 (line_entries p (lines_at rows.now first states)) []) code.old }
+    ensures { code.new ≡ over w (padded 16 (line_entries p (states_on sheet.entry states)) []) code.old }
 {
-    let mut at = first;
+    let mut left = sheet.items(states).iter();
     let mut place = p;
     for i in 0..ENTRIES {
-        code[w + i] = entry_word(i, states, place);
-        if i < states {
-            place += line_size(rows, at) + 1;
-            at = next_row(rows, at);
+        match left.next() {
+            Some(at) => {
+                code[w + i] = place as i32;
+                place += line_size(sheet.lines.rows, at) + 1;
+            }
+            None => code[w + i] = 0,
         }
     }
 }
 
-// Writes the words of a process with so many states from a row on, whose bodies begin at place p, from word w on.
-fn write_process(rows: &[Row], first: usize, states: usize, p: usize, code: &mut [i32], w: usize)
-    requires few { states ≤ 32768 }
-    requires small { p + states_size (lines_at rows.now first states) ≤ 4096 }
+// Writes the words of a process, whose bodies begin at place p, from word w on.
+fn write_process(sheet: Sheet, states: StateLines, p: usize, code: &mut [i32], w: usize)
+    requires small { p + states_size (states_on sheet states) ≤ 4096 }
     requires room { w + 17 ≤ length code.old }
-    ensures { code.new ≡ over w (process_words (line_entries p (lines_at rows.now first states) ∷ []) []) code.old }
+    ensures { code.new ≡ over w (process_words (line_entries p (states_on sheet.entry states) ∷ []) []) code.old }
 {
-    code[w] = states as i32;
-    write_entries(rows, first, states, p, code, w + 1);
+    code[w] = states.count as i32;
+    write_entries(sheet, states, p, code, w + 1);
 }
 
 // Writes the words of all processes.
-fn write_processes(rows: &[Row], lines: usize, code: &mut [i32])
-    requires few { lines ≤ 32768 }
-    requires small { processes_size (processes_of (lines_at rows.now 0 lines)) ≤ 4096 }
-    requires room { 7 + 17 * length (processes_of (lines_at rows.now 0 lines)) ≤ length code.old }
-    ensures { code.new ≡ over 7 (process_words (process_entries 0 (processes_of (lines_at rows.now 0 lines))) []) code.old }
+fn write_processes(sheet: Sheet, code: &mut [i32])
+    requires small { processes_size (processes_of (lines_of sheet.lines)) ≤ 4096 }
+    requires room { 7 + 17 * length (processes_of (lines_of sheet.lines)) ≤ length code.old }
+    ensures { code.new ≡ over 7 (process_words (process_entries 0 (processes_of (lines_of sheet.entry.lines))) []) code.old }
 {
-    let mut at = 0;
     let mut p = 0;
     let mut w = HEAD;
-    for i in 0..lines {
-        let next = next_row(rows, at);
-        if is_line(rows, at, Opener::Proc) {
-            let states = count_states(rows, next, lines - (i + 1));
-            let size = size_states(rows, next, states);
-            write_process(rows, next, states, p, code, w);
-            p += size;
-            w += 1 + ENTRIES;
-        }
-        at = next;
+    for states in sheet.processes() {
+        write_process(sheet, states, p, code, w);
+        p += size_states(sheet, states);
+        w += 1 + ENTRIES;
     }
 }
 
 // Writes the head and the words of all processes, for so many processes and instructions.
-pub(crate) fn write_front(
-    rows: &[Row],
-    lines: usize,
-    processes: usize,
-    instructions: usize,
-    code: &mut [i32],
-)
-    requires few { lines ≤ 32768 }
-    requires within { processes ≤ lines }
-    requires counted { processes ≡ length (processes_of (lines_at rows.now 0 lines)) }
-    requires measured { instructions ≡ processes_size (processes_of (lines_at rows.now 0 lines)) }
+pub(crate) fn write_front(sheet: Sheet, processes: usize, instructions: usize, code: &mut [i32])
+    requires within { processes ≤ sheet.lines.count }
+    requires counted { processes ≡ length (processes_of (lines_of sheet.lines)) }
+    requires measured { instructions ≡ processes_size (processes_of (lines_of sheet.lines)) }
     requires small { instructions ≤ 4096 }
     requires room { 7 + 17 * processes ≤ length code.old }
-    ensures { code.new ≡ over 0 (front_words (lines_at rows.now 0 lines)) code.old }
+    ensures { code.new ≡ over 0 (front_words (lines_of sheet.entry.lines)) code.old }
 {
-    write_head(rows, lines, processes, instructions, code);
-    write_processes(rows, lines, code);
+    write_head(sheet, processes, instructions, code);
+    write_processes(sheet, code);
 }

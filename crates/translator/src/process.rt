@@ -1,19 +1,22 @@
 // The bodies of processes: how many instructions they take, and putting them.
 ghost use Rattle.std.specs.Prelude.{◌≡◌, ◌+◌, ◌*◌, ◌≤◌, length};
-ghost use Rattle.language.specs.Lines.{body, states_behind, processes};
-ghost use Rattle.language.specs.OnSheet.{line_at, lines_at};
+ghost use Rattle.language.specs.Lines.{body, processes};
+ghost use Rattle.language.specs.OnSheet.{line_at, lines_of};
 ghost use Rattle.language.specs.Program.{bound};
 ghost use Rattle.language.specs.Resolve.{program};
 ghost use Rattle.language.specs.Sizes.{capped, act_size};
-ghost use Rattle.translator.specs.Writing.{names_at, states_size, processes_size, processes_put, StatesEmitted};
+ghost use Rattle.translator.specs.Writing.{names_at, states_on, states_size, processes_size, processes_put, StatesEmitted};
 
 use crate::encode::put;
-use crate::statement::{Site, emit_body};
+use crate::group::StateLines;
+use crate::sheet::Sheet;
+use crate::site::Site;
+use crate::statement::emit_body;
 use flat::instr::Instr;
 use language::house::Opener;
 use language::line::is_line;
 use measure::size::body_size;
-use text::row::{Row, next_row};
+use text::row::Row;
 
 // How many instructions the body of the line at a row takes; what is no state has none.
 pub(crate) fn line_size(rows: &[Row], at: usize) -> usize
@@ -26,113 +29,76 @@ pub(crate) fn line_size(rows: &[Row], at: usize) -> usize
     }
 }
 
-// How many of the lines from a row on are states, up to the first that is none.
-pub(crate) fn count_states(rows: &[Row], from: usize, lines: usize) -> usize
-    ensures is { result ≡ length (states_behind (lines_at rows.now from lines)) }
-    ensures within { result ≤ lines }
+// How many instructions the bodies of a process take, an end behind each.
+pub(crate) fn size_states(sheet: Sheet, states: StateLines) -> usize
+    requires small { states_size (states_on sheet states) ≤ 4096 }
+    ensures { result ≡ states_size (states_on sheet.entry states) }
 {
-    let mut at = from;
-    for i in 0..lines {
-        if !is_line(rows, at, Opener::State) {
-            return i;
-        }
-        at = next_row(rows, at);
-    }
-    lines
-}
-
-// How many instructions the bodies of so many state lines from a row on take, an end behind each.
-pub(crate) fn size_states(rows: &[Row], first: usize, states: usize) -> usize
-    requires small { states_size (lines_at rows.now first states) ≤ 4096 }
-    ensures { result ≡ states_size (lines_at rows.now first states) }
-{
-    let mut at = first;
     let mut size = 0;
-    for _i in 0..states {
-        size += line_size(rows, at) + 1;
-        at = next_row(rows, at);
+    for at in sheet.items(states).iter() {
+        size += line_size(sheet.lines.rows, at) + 1;
     }
     size
 }
 
-// Puts the bodies of so many state lines of a process from a row on, an end behind each; answers the place behind them, and the most that run.
+// Puts the bodies of process `own`, an end behind each; answers the place behind them, and the most that run.
 fn emit_states(
-    rows: &[Row],
-    lines: usize,
+    sheet: Sheet,
     own: usize,
-    first: usize,
-    states: usize,
+    states: StateLines,
     code: &mut [i32],
     p: usize,
 ) -> (usize, usize)
-    requires few { (lines ≤ 32768) × ((own ≤ 32768) × (states ≤ 32768)) }
+    requires few { own ≤ 32768 }
     requires short { length code.old ≤ 8192 }
-    requires room { 2 * (p + states_size (lines_at rows.now first states)) ≤ length code.old }
-    ensures { StatesEmitted (names_at rows.now lines) own (lines_at rows.now first states) p code.old code.new result }
+    requires room { 2 * (p + states_size (states_on sheet states)) ≤ length code.old }
+    ensures { StatesEmitted (names_at sheet.entry) own (states_on sheet.entry states) p code.old code.new result }
 {
-    let mut at = first;
     let mut next = p;
     let mut most: usize = 0;
-    for here in 0..states {
+    for (here, at) in sheet.items(states).iter().enumerate() {
         let site = Site {
-            lines,
+            sheet,
             own,
-            first,
             states,
             here,
         };
-        let (end, m) = emit_body(rows, site, at, code, next);
+        let (end, m) = emit_body(site, at, code, next);
         next = put(code, end, Instr::End);
         most = most.max(m + 1);
-        at = next_row(rows, at);
     }
     (next, most)
 }
 
 // How many processes lines have, and how many instructions all their bodies take.
-pub(crate) fn measure(rows: &[Row], lines: usize) -> (usize, usize)
-    requires small { processes_size (processes (lines_at rows.now 0 lines)) ≤ 4096 }
-    ensures count { result.0 ≡ length (processes (lines_at rows.now 0 lines)) }
-    ensures within { result.0 ≤ lines }
-    ensures size { result.1 ≡ processes_size (processes (lines_at rows.now 0 lines)) }
+pub(crate) fn measure(sheet: Sheet) -> (usize, usize)
+    requires small { processes_size (processes (lines_of sheet.lines)) ≤ 4096 }
+    ensures count { result.0 ≡ length (processes (lines_of sheet.entry.lines)) }
+    ensures within { result.0 ≤ sheet.entry.lines.count }
+    ensures size { result.1 ≡ processes_size (processes (lines_of sheet.entry.lines)) }
 {
-    let mut at = 0;
     let mut count = 0;
     let mut size = 0;
-    for i in 0..lines {
-        let next = next_row(rows, at);
-        if is_line(rows, at, Opener::Proc) {
-            let states = count_states(rows, next, lines - (i + 1));
-            count += 1;
-            size += size_states(rows, next, states);
-        }
-        at = next;
+    for states in sheet.processes() {
+        count += 1;
+        size += size_states(sheet, states);
     }
     (count, size)
 }
 
 // Puts the bodies of all processes, from place 0 on; answers the sum of the most that run of each.
-pub(crate) fn emit_processes(rows: &[Row], lines: usize, code: &mut [i32]) -> usize
-    requires few { lines ≤ 32768 }
+pub(crate) fn emit_processes(sheet: Sheet, code: &mut [i32]) -> usize
     requires short { length code.old ≤ 8192 }
-    requires room { 2 * processes_size (processes (lines_at rows.now 0 lines)) ≤ length code.old }
-    ensures bound { result ≡ bound (program (lines_at rows.now 0 lines)) }
-    ensures wrote { code.new ≡ processes_put (names_at rows.now lines) 0 0 (processes (lines_at rows.now 0 lines)) code.old }
+    requires room { 2 * processes_size (processes (lines_of sheet.lines)) ≤ length code.old }
+    ensures bound { result ≡ bound (program (lines_of sheet.entry.lines)) }
+    ensures wrote { code.new ≡ processes_put (names_at sheet.entry) 0 0 (processes (lines_of sheet.entry.lines)) code.old }
 {
-    let mut at = 0;
-    let mut own = 0;
     let mut p = 0;
     let mut total = 0;
-    for i in 0..lines {
-        let next = next_row(rows, at);
-        if is_line(rows, at, Opener::Proc) {
-            let states = count_states(rows, next, lines - (i + 1));
-            let (behind, most) = emit_states(rows, lines, own, next, states, code, p);
-            own += 1;
-            p = behind;
-            total += most;
-        }
-        at = next;
+    for (own, states) in sheet.processes().enumerate() {
+        let (behind, most) = emit_states(sheet, own, states, code, p);
+        p = behind;
+        total += most;
     }
     total
 }

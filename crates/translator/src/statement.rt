@@ -1,49 +1,33 @@
 // The instructions of statements.
 ghost use Rattle.std.specs.Prelude.{◌≡◌, ◌+◌, ◌*◌, ◌≤◌, length};
 ghost use Rattle.language.specs.Lines.{body};
-ghost use Rattle.language.specs.Named.{Act};
-ghost use Rattle.language.specs.OnSheet.{term_at, act_at, act_of, acts_of, change_of, digits_at, line_at};
+ghost use Rattle.language.specs.OnSheet.{term_at, act_at, act_of, acts_of, change_of, line_at};
 ghost use Rattle.language.specs.Sizes.{act_size};
-ghost use Rattle.translator.specs.Writing.{names_at, spot_at, Near, ActEmitted};
+ghost use Rattle.flat.specs.declared.instr.Instr.TheVariants.{Unless as UnlessInstr};
+ghost use Rattle.translator.specs.Writing.{names_at, put_at, spot_at, ActEmitted};
 
 use crate::encode::put;
 use crate::expression::emit_term;
 use crate::meaning::{count_at, process_at, state_at, target_at};
+use crate::site::Site;
 use flat::instr::{Control, Instr, Source};
 use language::house::Opener;
 use language::line::is_line;
 use language::view::{ActView, Change, act_view, count_at as items_at, third_row};
 use measure::size::act_size;
-use text::row::{Row, next_row};
-
-// Where a statement stands: how many lines the text has, the number of its process, the row and the number of that process's state lines, and the number of its own state.
-#[derive(Clone, Copy)]
-pub(crate) struct Site {
-    pub(crate) lines: usize,
-    pub(crate) own: usize,
-    pub(crate) first: usize,
-    pub(crate) states: usize,
-    pub(crate) here: usize,
-}
+use text::items::Items;
 
 // Puts a statement that sets a state or a clock.
-fn emit_change(
-    rows: &[Row],
-    site: Site,
-    change: Change,
-    code: &mut [i32],
-    p: usize,
-) -> (usize, usize)
-    requires near { Near site }
+fn emit_change(site: Site, change: Change, code: &mut [i32], p: usize) -> (usize, usize)
     requires room { 2 * (p + 1) ≤ length code.old }
-    ensures { ActEmitted (names_at rows.now site.lines) (spot_at rows.now site) (change_of rows.now change) p code.old code.new result }
+    ensures { ActEmitted (names_at site.entry.sheet) (spot_at site.entry) (change_of site.entry.sheet.lines.rows.now change) p code.old code.new result }
 {
     let control = match change {
-        Change::Go(name) => Control::State(state_at(rows, site.first, site.states, name)),
+        Change::Go(name) => Control::State(state_at(site.sheet, site.states, name)),
         Change::Next => Control::State(site.here + 1),
-        Change::Start(name) => Control::Start(process_at(rows, site.lines, name)),
+        Change::Start(name) => Control::Start(process_at(site.sheet, name)),
         Change::Restart => Control::Start(site.own),
-        Change::Stop(name) => Control::Stop(process_at(rows, site.lines, name)),
+        Change::Stop(name) => Control::Stop(process_at(site.sheet, name)),
         Change::Halt => Control::Stop(site.own),
         Change::Fail => Control::Fail,
         Change::Reset => Control::Reset,
@@ -51,147 +35,113 @@ fn emit_change(
     (put(code, p, Instr::Set(control)), 1)
 }
 
-// Puts a statement with no other to do where its condition does not hold.
-#[cycle(emit_act_emit_acts_emit_after_emit_parts_emit_when)]
-fn emit_when(
-    rows: &[Row],
+// Puts an `unless` at a place that leads past the statement at a row, and then the statement: it runs only where the top of the stack is true.
+#[cycle(statements)]
+fn emit_guarded(
     site: Site,
-    condition: usize,
     at: usize,
     left: usize,
     code: &mut [i32],
-    p: usize,
+    unless: usize,
 ) -> (usize, usize)
-    requires near { Near site }
     requires short { length code.old ≤ 8192 }
-    requires room { 2 * (p + act_size (Act.when (term_at left rows.now condition) (act_at left rows.now at))) ≤ length code.old }
-    ensures { ActEmitted (names_at rows.now site.lines) (spot_at rows.now site) (Act.when (term_at left rows.now condition) (act_at left rows.now at)) p code.old code.new result }
+    requires room { 2 * (unless + 1 + act_size (act_at left site.sheet.lines.rows.now at)) ≤ length code.old }
+    ensures { ActEmitted (names_at site.entry.sheet) (spot_at site.entry) (act_at left site.entry.sheet.lines.rows.now at) (unless + 1) (put_at unless (UnlessInstr (unless + 1 + act_size (act_at left site.entry.sheet.lines.rows.now at))) code.old) code.new result }
 {
-    let (unless, m) = emit_term(rows, site.lines, condition, left, code, p);
     let first = put(
         code,
         unless,
-        Instr::Unless(unless + 1 + act_size(rows, at, left)),
+        Instr::Unless(unless + 1 + act_size(site.sheet.lines.rows, at, left)),
     );
-    let (next, n) = emit_act(rows, site, at, left, code, first);
-    (next, m + 1 + n)
-}
-
-// Puts a statement under a time.
-#[cycle(emit_act_emit_acts_emit_after_emit_parts_emit_when)]
-fn emit_after(
-    rows: &[Row],
-    site: Site,
-    time: usize,
-    at: usize,
-    left: usize,
-    code: &mut [i32],
-    p: usize,
-) -> (usize, usize)
-    requires near { Near site }
-    requires short { length code.old ≤ 8192 }
-    requires room { 2 * (p + act_size (Act.after (digits_at rows.now time) (act_at left rows.now at))) ≤ length code.old }
-    ensures { ActEmitted (names_at rows.now site.lines) (spot_at rows.now site) (Act.after (digits_at rows.now time) (act_at left rows.now at)) p code.old code.new result }
-{
-    let unless = put(code, p, Instr::Push(Source::Late(count_at(rows, time))));
-    let first = put(
-        code,
-        unless,
-        Instr::Unless(p + 2 + act_size(rows, at, left)),
-    );
-    let (next, n) = emit_act(rows, site, at, left, code, first);
-    (next, 2 + n)
+    emit_act(site, at, left, code, first)
 }
 
 // Puts so many statements from a row on, one behind another.
-#[cycle(emit_act_emit_acts_emit_after_emit_parts_emit_when)]
+#[cycle(statements)]
 fn emit_acts(
-    rows: &[Row],
     site: Site,
-    from: usize,
+    first: usize,
     count: usize,
     left: usize,
     code: &mut [i32],
     p: usize,
 ) -> (usize, usize)
-    requires near { Near site }
     requires short { length code.old ≤ 8192 }
-    requires room { 2 * (p + act_size (acts_of (act_at left rows.now) rows.now from count)) ≤ length code.old }
-    ensures { ActEmitted (names_at rows.now site.lines) (spot_at rows.now site) (acts_of (act_at left rows.now) rows.now from count) p code.old code.new result }
+    requires room { 2 * (p + act_size (acts_of (act_at left site.sheet.lines.rows.now) site.sheet.lines.rows.now first count)) ≤ length code.old }
+    ensures { ActEmitted (names_at site.entry.sheet) (spot_at site.entry) (acts_of (act_at left site.entry.sheet.lines.rows.now) site.entry.sheet.lines.rows.now first count) p code.old code.new result }
 {
-    let mut at = from;
+    let statements = Items {
+        rows: site.sheet.lines.rows,
+        first,
+        count,
+    };
     let mut next = p;
     let mut most = 0;
-    for _i in 0..count {
-        let (behind, m) = emit_act(rows, site, at, left, code, next);
+    for at in statements.iter() {
+        let (behind, m) = emit_act(site, at, left, code, next);
         next = behind;
         most += m;
-        at = next_row(rows, at);
     }
     (next, most)
 }
 
 // Puts the statement whose view is given, its parts at most `left` deep.
-#[cycle(emit_act_emit_acts_emit_after_emit_parts_emit_when)]
-fn emit_parts(
-    rows: &[Row],
-    site: Site,
-    view: ActView,
-    left: usize,
-    code: &mut [i32],
-    p: usize,
-) -> (usize, usize)
-    requires near { Near site }
+#[cycle(statements)]
+fn emit_parts(site: Site, view: ActView, left: usize, code: &mut [i32], p: usize) -> (usize, usize)
     requires short { length code.old ≤ 8192 }
-    requires room { 2 * (p + act_size (act_of rows.now (term_at left rows.now) (act_at left rows.now) view)) ≤ length code.old }
-    ensures { ActEmitted (names_at rows.now site.lines) (spot_at rows.now site) (act_of rows.now (term_at left rows.now) (act_at left rows.now) view) p code.old code.new result }
+    requires room { 2 * (p + act_size (act_of site.sheet.lines.rows.now (term_at left site.sheet.lines.rows.now) (act_at left site.sheet.lines.rows.now) view)) ≤ length code.old }
+    ensures { ActEmitted (names_at site.entry.sheet) (spot_at site.entry) (act_of site.entry.sheet.lines.rows.now (term_at left site.entry.sheet.lines.rows.now) (act_at left site.entry.sheet.lines.rows.now) view) p code.old code.new result }
 {
     match view {
         ActView::Put(name, value) => {
-            let (last, m) = emit_term(rows, site.lines, value, left, code, p);
-            (put(code, last, target_at(rows, site.lines, name)), m + 1)
+            let (last, m) = emit_term(site.sheet, value, left, code, p);
+            (put(code, last, target_at(site.sheet, name)), m + 1)
         }
-        ActView::When(condition, at) => emit_when(rows, site, condition, at, left, code, p),
+        ActView::When(condition, at) => {
+            let (unless, m) = emit_term(site.sheet, condition, left, code, p);
+            let (next, n) = emit_guarded(site, at, left, code, unless);
+            (next, m + 1 + n)
+        }
         ActView::Choose(condition, at, other) => {
-            let (unless, m) = emit_term(rows, site.lines, condition, left, code, p);
-            let second = unless + 1 + act_size(rows, at, left) + 1;
+            let (unless, m) = emit_term(site.sheet, condition, left, code, p);
+            let second = unless + 1 + act_size(site.sheet.lines.rows, at, left) + 1;
             let first = put(code, unless, Instr::Unless(second));
-            let (jump, n) = emit_act(rows, site, at, left, code, first);
+            let (jump, n) = emit_act(site, at, left, code, first);
             let behind = put(
                 code,
                 jump,
-                Instr::Jump(second + act_size(rows, other, left)),
+                Instr::Jump(second + act_size(site.sheet.lines.rows, other, left)),
             );
-            let (next, k) = emit_act(rows, site, other, left, code, behind);
+            let (next, k) = emit_act(site, other, left, code, behind);
             (next, m + 1 + (n + 1).max(k))
         }
-        ActView::Do(from, count) => emit_acts(rows, site, from, count, left, code, p),
-        ActView::After(time, at) => emit_after(rows, site, time, at, left, code, p),
-        ActView::Set(change) => emit_change(rows, site, change, code, p),
+        ActView::Do(from, count) => emit_acts(site, from, count, left, code, p),
+        ActView::After(time, at) => {
+            let unless = put(
+                code,
+                p,
+                Instr::Push(Source::Late(count_at(site.sheet.lines.rows, time))),
+            );
+            let (next, n) = emit_guarded(site, at, left, code, unless);
+            (next, 2 + n)
+        }
+        ActView::Set(change) => emit_change(site, change, code, p),
         ActView::Odd => (p, 0),
     }
 }
 
 // Puts the statement at a row, read at most `left` deep, from place p on; answers the place behind it, and how many of its instructions run at most.
-#[cycle(emit_act_emit_acts_emit_after_emit_parts_emit_when)]
-fn emit_act(
-    rows: &[Row],
-    site: Site,
-    at: usize,
-    left: usize,
-    code: &mut [i32],
-    p: usize,
-) -> (usize, usize)
-    requires near { Near site }
+#[cycle(statements)]
+fn emit_act(site: Site, at: usize, left: usize, code: &mut [i32], p: usize) -> (usize, usize)
     requires short { length code.old ≤ 8192 }
-    requires room { 2 * (p + act_size (act_at left rows.now at)) ≤ length code.old }
-    ensures { ActEmitted (names_at rows.now site.lines) (spot_at rows.now site) (act_at left rows.now at) p code.old code.new result }
+    requires room { 2 * (p + act_size (act_at left site.sheet.lines.rows.now at)) ≤ length code.old }
+    ensures { ActEmitted (names_at site.entry.sheet) (spot_at site.entry) (act_at left site.entry.sheet.lines.rows.now at) p code.old code.new result }
 {
     if left == 0 {
         return (p, 0);
     }
-    let view = act_view(rows, at);
-    emit_parts(rows, site, view, left - 1, code, p)
+    let view = act_view(site.sheet.lines.rows, at);
+    emit_parts(site, view, left - 1, code, p)
 }
 
 // How deep the forms of a body nest at most.
@@ -202,22 +152,15 @@ fn deepest() -> usize
 }
 
 // Puts the body of the line at a row; what is no state has none.
-pub(crate) fn emit_body(
-    rows: &[Row],
-    site: Site,
-    at: usize,
-    code: &mut [i32],
-    p: usize,
-) -> (usize, usize)
-    requires near { Near site }
+pub(crate) fn emit_body(site: Site, at: usize, code: &mut [i32], p: usize) -> (usize, usize)
     requires short { length code.old ≤ 8192 }
-    requires room { 2 * (p + act_size (body (line_at rows.now at))) ≤ length code.old }
-    ensures { ActEmitted (names_at rows.now site.lines) (spot_at rows.now site) (body (line_at rows.now at)) p code.old code.new result }
+    requires room { 2 * (p + act_size (body (line_at site.sheet.lines.rows.now at))) ≤ length code.old }
+    ensures { ActEmitted (names_at site.entry.sheet) (spot_at site.entry) (body (line_at site.entry.sheet.lines.rows.now at)) p code.old code.new result }
 {
-    if !is_line(rows, at, Opener::State) {
+    if !is_line(site.sheet.lines.rows, at, Opener::State) {
         return (p, 0);
     }
-    let from = third_row(rows, at);
-    let count = items_at(rows, at).saturating_sub(2);
-    emit_acts(rows, site, from, count, deepest(), code, p)
+    let from = third_row(site.sheet.lines.rows, at);
+    let count = items_at(site.sheet.lines.rows, at).saturating_sub(2);
+    emit_acts(site, from, count, deepest(), code, p)
 }

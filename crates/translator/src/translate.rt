@@ -1,37 +1,27 @@
 // The call that translates a text.
-ghost use Rattle.std.specs.Prelude.{◌≡◌, ◌≤◌, length};
-ghost use Rattle.text.specs.Sheet.{forms_at};
-ghost use Rattle.language.specs.OnSheet.{lines_at};
+ghost use Rattle.std.specs.Prelude.{◌≡◌, length};
+ghost use Rattle.text.specs.Items.{forms_of};
 ghost use Rattle.language.specs.Translation.{answer_for, translation};
-ghost use Rattle.translator.specs.Outcome.{unread, told, outcome};
+ghost use Rattle.translator.specs.Outcome.{told, outcome};
+ghost use Rattle.language.specs.OnSheet.{lines_of};
 
 use crate::emit::{count_words, write_code};
+use crate::sheet::Sheet;
 use checks::check::check;
 use checks::refusal::Refusal;
-use text::read::{ReadRefusal, read};
+use text::items::Items;
+use text::read::read;
 use text::row::Row;
 
-// The refusal of a text that could not be read.
-fn unread(refusal: ReadRefusal) -> Refusal
-    ensures { result ≡ unread refusal }
-{
-    match refusal {
-        ReadRefusal::Size => Refusal::Size,
-        ReadRefusal::Line(n) => Refusal::NoForm(n),
-        ReadRefusal::Short => Refusal::ShortSheet,
-    }
-}
-
 // Checks the lines on a sheet and writes their code.
-fn write_checked(rows: &[Row], lines: usize, code: &mut [i32]) -> Result<(usize, usize), Refusal>
-    requires { lines ≤ 32768 }
-    ensures { (record { told = told result; code = code.new }) ≡ outcome (answer_for (length code.old) (forms_at rows.now 0 lines) (lines_at rows.now 0 lines)) code.old }
+fn write_checked(sheet: Sheet, code: &mut [i32]) -> Result<(usize, usize), Refusal>
+    ensures { (record { told = told result; code = code.new }) ≡ outcome (answer_for (length code.old) (forms_of sheet.entry.lines) (lines_of sheet.entry.lines)) code.old }
 {
-    check(rows, lines)?;
-    if code.len() < count_words(rows, lines) {
+    check(sheet.lines)?;
+    if code.len() < count_words(sheet) {
         return Err(Refusal::ShortCode);
     }
-    Ok(write_code(rows, lines, code))
+    Ok(write_code(sheet, code))
 }
 
 // Translates a text: the words of its flat code are written in front of the code, and their number and the bound of a scan's steps
@@ -43,8 +33,12 @@ pub fn translate<'a>(
 ) -> Result<(usize, usize), Refusal>
     ensures { (record { told = told result; code = code.new }) ≡ outcome (translation text.now (length sheet.old) (length code.old)) code.old }
 {
-    match read(text, sheet) {
-        Ok(page) => write_checked(sheet, page.lines, code),
-        Err(refusal) => Err(unread(refusal)),
-    }
+    let page = read(text, sheet)?;
+    let lines = Items {
+        rows: sheet,
+        first: 0,
+        count: page.lines,
+    };
+    let sheet = Sheet { lines };
+    write_checked(sheet, code)
 }

@@ -1,7 +1,9 @@
 -- A form by what its row shows; an item that has a large number, and one that has none.
-use Rattle.std.proofs.Common.{◌∙◌, arith}
+use Rattle.std.proofs.Common.{◌∙◌, ap, map, rules}
+use Rattle.text.specs.Form.{pack}
 use Rattle.text.specs.Sheet.{form_at}
-use Rattle.limits.proofs.Items.{large_at, large_here, large_further}
+use Rattle.language.specs.Causes.{any_large}
+use Rattle.limits.proofs.Items.{large_at}
 use Rattle.limits.proofs.large.+any_large_is_large.Goals as goal
 
 pub is_large-returns-in-Word : goal.is_large-returns-in-Word
@@ -17,10 +19,10 @@ is_large-returns-in-Items t c =
 
 pub any_large-returns-then-is_large : goal.any_large-returns-then-is_large
 any_large-returns-then-is_large t c =
-    let rows = c.args.rows.now in
-    large_here (form_at c.args.left rows) rows c.loop.at c.args.count c.loop.counter (omega arith) c.if-is_large.ensures ∙ c.loop.invariant
+    let e = ap (λ ats. any_large (pack (map (form_at c.args.left c.args.items.rows.now) ats))) c.in-Some.ensures.steps in
+    search rules
 
-pub any_large-loop-preserved : goal.any_large-loop-preserved
-any_large-loop-preserved t c =
-    let rows = c.args.rows.now in
-    large_further (form_at c.args.left rows) rows c.loop.at _ c.args.count c.loop.counter (omega arith) c.next_row-at.ensures c.if-is_large.ensures ∙ c.loop.invariant
+pub any_large-loop-at-preserved : goal.any_large-loop-at-preserved
+any_large-loop-at-preserved t c =
+    let e = ap (λ ats. any_large (pack (map (form_at c.args.left c.args.items.rows.now) ats))) c.in-Some.ensures.steps in
+    search rules

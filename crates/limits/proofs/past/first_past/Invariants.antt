@@ -2,5 +2,8 @@
 use Rattle.limits.proofs.Progress.{Progress}
 use Rattle.limits.proofs.past.first_past.Given as goal
 
-abbrev pub invariant-loop-i : goal.invariant-loop-i
-invariant-loop-i l = Progress l.rows l.lines l.at l.i l.tally
+abbrev pub invariant-loop-at : goal.invariant-loop-at
+invariant-loop-at l = Progress l.lines l.left l.tally
+
+abbrev pub decreases-loop-at : goal.decreases-loop-at
+decreases-loop-at l = l.left.count

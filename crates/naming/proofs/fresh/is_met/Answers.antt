@@ -1,15 +1,17 @@
--- The line at hand declares the word, or is passed.
-use Rattle.std.proofs.Common.{rules}
+-- The test of a line is that of its row.
+use Rattle.std.proofs.Common.{◌∙◌, rules}
+use borrow.Author.Tests.{tests}
+use Rattle.std.proofs.lemmas.Iterator.Search.{any_from_yields_List}
+use Rattle.text.proofs.Starts.{walked}
+use Rattle.text.specs.Items.{starts_of}
+use Rattle.language.specs.OnSheet.{line_at}
+use Rattle.language.proofs.Tests.{any_read}
 use Rattle.naming.specs.Rivals.{takes_up}
-use Rattle.naming.proofs.Rivals.{any_more}
 use Rattle.naming.proofs.fresh.is_met.Goals as goal
 
-pub returns-then-takes_up : goal.returns-then-takes_up
-returns-then-takes_up c =
-    let e = any_more (takes_up c.args.states c.args.w.now) c.args.rows.now c.loop.at c.args.count c.loop.counter c.loop-test.true in
-    search rules
-
-pub loop-preserved : goal.loop-preserved
-loop-preserved c =
-    let e = any_more (takes_up c.args.states c.args.w.now) c.args.rows.now c.loop.at c.args.count c.loop.counter c.loop-test.true in
-    search rules
+pub returns : goal.returns
+returns c =
+    let rows = c.args.lines.rows.now in
+    let w = c.args.w.now in
+    any_from_yields_List (λ at. takes_up c.args.states w (line_at rows at)) c.any.new.self _ _ c.any.ensures.ran (walked c.args.lines c.iter.ensures.rows) (λ x b q k. search (rules, tests))
+    ∙ any_read (takes_up c.args.states w) (line_at rows) (starts_of c.args.lines)

@@ -1,8 +1,9 @@
 -- A statement, one level less deep; one statement more of so many.
-use Rattle.std.proofs.Common.{rules}
-use Rattle.language.proofs.Depth.{act_at_more, acts_more}
+use Rattle.std.proofs.Common.{ap, map, rules}
+use Rattle.language.specs.OnSheet.{act_at, sequence}
+use Rattle.language.proofs.Depth.{act_at_more}
+use Rattle.naming.specs.Scopes.{known_in}
 use Rattle.naming.proofs.known.+act_known_act_view_known_acts_known.Goals as goal
-use Rattle.language.specs.OnSheet.{act_at}
 
 pub act_known-returns-else-left-eq0 : goal.act_known-returns-else-left-eq0
 act_known-returns-else-left-eq0 t c =
@@ -11,12 +12,10 @@ act_known-returns-else-left-eq0 t c =
 
 pub acts_known-returns-then-not-act_known : goal.acts_known-returns-then-not-act_known
 acts_known-returns-then-not-act_known t c =
-    let rows = c.args.rows.now in
-    let e = acts_more (act_at c.args.left rows) rows c.loop.at c.args.count c.loop.counter c.loop-test.true in
+    let e = ap (λ ats. known_in c.args.scope (sequence (map (act_at c.args.left c.args.acts.rows.now) ats))) c.in-Some.ensures.steps in
     search rules
 
-pub acts_known-loop-preserved : goal.acts_known-loop-preserved
-acts_known-loop-preserved t c =
-    let rows = c.args.rows.now in
-    let e = acts_more (act_at c.args.left rows) rows c.loop.at c.args.count c.loop.counter c.loop-test.true in
+pub acts_known-loop-at-preserved : goal.acts_known-loop-at-preserved
+acts_known-loop-at-preserved t c =
+    let e = ap (λ ats. known_in c.args.scope (sequence (map (act_at c.args.left c.args.acts.rows.now) ats))) c.in-Some.ensures.steps in
     search rules

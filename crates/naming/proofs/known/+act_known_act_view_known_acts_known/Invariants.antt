@@ -1,6 +1,7 @@
 -- A statement is taken apart, then its parts are read one level less deep; of so many, all so far are known.
-use Rattle.std.proofs.Common.{◌≡◌, ◌+◌, ◌-◌, ◌*◌}
-use Rattle.language.specs.OnSheet.{act_at, acts_of}
+use Rattle.std.proofs.Common.{◌≡◌, ◌+◌, ◌*◌, map}
+use Rattle.text.specs.Items.{starts_left}
+use Rattle.language.specs.OnSheet.{act_at, acts_in, sequence}
 use Rattle.naming.specs.Scopes.{known_in}
 use Rattle.naming.proofs.known.+act_known_act_view_known_acts_known.Given as goal
 
@@ -13,7 +14,7 @@ decreases-acts_known l = 3 * l.left + 1
 abbrev pub decreases-act_view_known : goal.decreases-act_view_known
 decreases-act_view_known l = 3 * l.left + 2
 
-abbrev pub invariant-acts_known-loop : goal.invariant-acts_known-loop
-invariant-acts_known-loop l =
-    known_in l.rows l.scope (acts_of (act_at l.left l.rows) l.rows l.at (l.count - l.counter))
-    ≡ known_in l.rows l.scope (acts_of (act_at l.left l.rows) l.rows l.first l.count)
+abbrev pub invariant-acts_known-loop-at : goal.invariant-acts_known-loop-at
+invariant-acts_known-loop-at l =
+    known_in l.scope (sequence (map (act_at l.left l.acts.rows.now) (starts_left l.at-iterator)))
+    ≡ known_in l.scope (acts_in (act_at l.left l.acts.rows.now) l.acts)

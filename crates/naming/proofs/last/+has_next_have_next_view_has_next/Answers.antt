@@ -1,8 +1,8 @@
 -- A statement, one level less deep; one statement more of so many.
-use Rattle.std.proofs.Common.{ap, rules}
-use Rattle.language.specs.OnSheet.{act_at}
+use Rattle.std.proofs.Common.{ap, map, rules}
+use Rattle.language.specs.OnSheet.{act_at, sequence}
 use Rattle.language.specs.Resolve.{has_next}
-use Rattle.language.proofs.Depth.{act_at_more, acts_more}
+use Rattle.language.proofs.Depth.{act_at_more}
 use Rattle.naming.proofs.last.+has_next_have_next_view_has_next.Goals as goal
 
 pub has_next-returns-else-left-eq0 : goal.has_next-returns-else-left-eq0
@@ -12,12 +12,10 @@ has_next-returns-else-left-eq0 t c =
 
 pub have_next-returns-then-has_next : goal.have_next-returns-then-has_next
 have_next-returns-then-has_next t c =
-    let rows = c.args.rows.now in
-    let e = ap has_next (acts_more (act_at c.args.left rows) rows c.loop.at c.args.count c.loop.counter c.loop-test.true) in
+    let e = ap (λ ats. has_next (sequence (map (act_at c.args.left c.args.acts.rows.now) ats))) c.in-Some.ensures.steps in
     search rules
 
-pub have_next-loop-preserved : goal.have_next-loop-preserved
-have_next-loop-preserved t c =
-    let rows = c.args.rows.now in
-    let e = ap has_next (acts_more (act_at c.args.left rows) rows c.loop.at c.args.count c.loop.counter c.loop-test.true) in
+pub have_next-loop-at-preserved : goal.have_next-loop-at-preserved
+have_next-loop-at-preserved t c =
+    let e = ap (λ ats. has_next (sequence (map (act_at c.args.left c.args.acts.rows.now) ats))) c.in-Some.ensures.steps in
     search rules

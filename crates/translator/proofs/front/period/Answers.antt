@@ -1,27 +1,17 @@
-use Rattle.std.proofs.Common.{sym, ap, ◌∙◌, arith, rules}
-use native.Mathlib.Nat.{sub-zero}
-use Rattle.language.specs.Numbers.{word_value}
-use Rattle.language.specs.OnSheet.{digits_at}
-use Rattle.language.specs.Words.{period}
-use Rattle.language.proofs.Lines.{lines_none}
-use Rattle.translator.proofs.Heads.{period_on, period_off}
+-- The first line of the sort says it.
+use Rattle.std.proofs.Common.{rules}
+use Rattle.text.specs.Items.{starts_of}
+use Rattle.translator.proofs.Heads.{period_is}
 use Rattle.translator.proofs.front.period.Goals as goal
-
-pub loop-i-init : goal.loop-i-init
-loop-i-init c = rw sub-zero
-
-pub returns-then-is_line : goal.returns-then-is_line
-returns-then-is_line c =
-    let h = period_on c.args.rows.now c.loop-i.at c.args.lines c.loop-i._i c.loop-i-test.true c.if-is_line.ensures in
-    let e = c.number_at.ensures ∙ ap (λ at. word_value (digits_at c.args.rows.now at)) c.second_row.ensures ∙ sym h ∙ c.loop-i.invariant in
-    search rules
-
-pub loop-i-preserved : goal.loop-i-preserved
-loop-i-preserved c =
-    let h = period_off c.args.rows.now c.loop-i.at c.next_row-at.result c.args.lines c.loop-i._i c.loop-i-test.true c.next_row-at.ensures c.if-is_line.ensures in
-    sym h ∙ c.loop-i.invariant
 
 pub returns : goal.returns
 returns c =
-    let h = ap period (lines_none c.args.rows.now c.loop-i.at c.args.lines c.loop-i._i (omega arith)) in
-    sym h ∙ c.loop-i.invariant
+    let lines = c.args.sheet.lines in
+    let e = period_is lines.rows.now (starts_of lines) in
+    search rules
+
+pub returns-in_default : goal.returns-in_default
+returns-in_default c =
+    let lines = c.args.sheet.lines in
+    let e = period_is lines.rows.now (starts_of lines) in
+    search rules

@@ -1,44 +1,45 @@
-use Rattle.std.proofs.Common.{length, ap, zero-add, arith, rules}
-use native.Mathlib.Nat.{sub-zero}
+-- A process more, and all.
+use Rattle.std.proofs.Common.{length, ap, arith}
 use Rattle.translator.specs.Writing.{processes_size}
-use Rattle.translator.proofs.Sorted.{process_on, process_off, process_out}
+use Rattle.translator.proofs.Groups.{lines_in, processes_are, groups_few, length-lines_in}
 use Rattle.translator.proofs.process.measure.Goals as goal
-use Rattle.translator.proofs.process.measure.Goals.{then-is_line, else-is_line}
 
-pub loop-i-init : goal.loop-i-init
-loop-i-init c = rw sub-zero (omega arith, zero-add _, zero-add _)
+pub overflow_add-count : goal.overflow_add-count
+overflow_add-count c =
+    let lines = c.args.sheet.lines in
+    let few = groups_few lines.rows.now lines.first lines.count in
+    let e = ap length c.in-Some.ensures.steps in
+    record { fits = omega arith }
 
 pub size_states-size-requires : goal.size_states-size-requires
 size_states-size-requires c =
-    let h = ap processes_size (process_on c.args.rows.now c.loop-i.at c.next_row-next.result c.args.lines c.loop-i.i c.count_states-states.result c.loop-i-test.true
-    c.next_row-next.ensures c.if-is_line.ensures c.count_states-states.ensures.is) in
-    search rules
+    let lines = c.args.sheet.lines in
+    let all = ap processes_size (processes_are lines.rows.now lines.first lines.count) in
+    let e = ap (λ gs. processes_size (lines_in lines.rows.now gs)) c.in-Some.ensures.steps in
+    record { small = omega arith }
 
 pub overflow_add-size : goal.overflow_add-size
 overflow_add-size c =
-    let h = ap processes_size (process_on c.args.rows.now c.loop-i.at c.next_row-next.result c.args.lines c.loop-i.i c.count_states-states.result c.loop-i-test.true
-    c.next_row-next.ensures c.if-is_line.ensures c.count_states-states.ensures.is) in
-    search rules
+    let lines = c.args.sheet.lines in
+    let all = ap processes_size (processes_are lines.rows.now lines.first lines.count) in
+    let e = ap (λ gs. processes_size (lines_in lines.rows.now gs)) c.in-Some.ensures.steps in
+    record { fits = omega arith }
 
-pub loop-i-preserved : goal.loop-i-preserved
-loop-i-preserved c =
-    elim c.if-is_line.branch [
-      | then-is_line w ↦
-          let e = process_on c.args.rows.now c.loop-i.at c.next_row-next.result c.args.lines c.loop-i.i w.count_states-states.result c.loop-i-test.true
-          c.next_row-next.ensures w.if-is_line.ensures w.count_states-states.ensures.is in
-          let h = ap processes_size e in
-          let k = ap length e in
-          (omega arith, omega arith, omega arith)
-      | else-is_line w ↦
-          let e = process_off c.args.rows.now c.loop-i.at c.next_row-next.result c.args.lines c.loop-i.i c.loop-i-test.true c.next_row-next.ensures w.if-is_line.ensures in
-          let h = ap processes_size e in
-          let k = ap length e in
-          (omega arith, omega arith, omega arith)
-    ]
+pub loop-states-preserved : goal.loop-states-preserved
+loop-states-preserved c =
+    let rows = c.args.sheet.lines.rows.now in
+    let e = ap length c.in-Some.ensures.steps in
+    let f = ap (λ gs. processes_size (lines_in rows gs)) c.in-Some.ensures.steps in
+    (omega arith, omega arith)
 
 pub returns : goal.returns
 returns c =
-    let e = process_out c.args.rows.now c.loop-i.at c.args.lines c.loop-i.i (omega arith) in
-    let h = ap processes_size e in
-    let k = ap length e in
+    let lines = c.args.sheet.lines in
+    let all = processes_are lines.rows.now lines.first lines.count in
+    let few = groups_few lines.rows.now lines.first lines.count in
+    let n = length-lines_in lines.rows.now lines.first lines.count in
+    let m = ap length all in
+    let s = ap processes_size all in
+    let e = ap length c.in-None.ensures.steps.0 in
+    let f = ap (λ gs. processes_size (lines_in lines.rows.now gs)) c.in-None.ensures.steps.0 in
     record { count = omega arith; within = omega arith; size = omega arith }

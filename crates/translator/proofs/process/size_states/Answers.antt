@@ -1,21 +1,25 @@
-use Rattle.std.proofs.Common.{ap, zero-add, arith, rules}
-use native.Mathlib.Nat.{sub-zero}
+-- A state more, and all.
+use Rattle.std.proofs.Common.{map, ap, arith, rules}
+use Rattle.language.specs.OnSheet.{line_at}
 use Rattle.translator.specs.Writing.{states_size}
-use Rattle.language.proofs.Lines.{lines_more, lines_none}
 use Rattle.translator.proofs.process.size_states.Goals as goal
 
-pub loop-i-init : goal.loop-i-init
-loop-i-init c = rw (zero-add, sub-zero)
-
-pub overflow_add-size-in-loop-i : goal.overflow_add-size-in-loop-i
-overflow_add-size-in-loop-i c =
-    let h = ap states_size (lines_more c.args.rows.now c.loop-i.at c.args.states c.loop-i._i c.loop-i-test.true) in
+pub loop-at-init : goal.loop-at-init
+loop-at-init c =
+    let e = ap (λ ats. states_size (map (line_at c.args.sheet.lines.rows.now) ats)) c.items.ensures.starts in
     search rules
 
-pub loop-i-preserved : goal.loop-i-preserved
-loop-i-preserved c =
-    let h = ap states_size (lines_more c.args.rows.now c.loop-i.at c.args.states c.loop-i._i c.loop-i-test.true) in
-    rw c.next_row-at.ensures (omega arith)
+pub overflow_add-size-in-loop-at : goal.overflow_add-size-in-loop-at
+overflow_add-size-in-loop-at c =
+    let e = ap (λ ats. states_size (map (line_at c.args.sheet.lines.rows.now) ats)) c.in-Some.ensures.steps in
+    record { fits = omega arith }
+
+pub loop-at-preserved : goal.loop-at-preserved
+loop-at-preserved c =
+    let e = ap (λ ats. states_size (map (line_at c.args.sheet.lines.rows.now) ats)) c.in-Some.ensures.steps in
+    omega arith
 
 pub returns : goal.returns
-returns c = let h = ap states_size (lines_none c.args.rows.now c.loop-i.at c.args.states c.loop-i._i (omega arith)) in omega arith
+returns c =
+    let e = ap (λ ats. states_size (map (line_at c.args.sheet.lines.rows.now) ats)) c.in-None.ensures.steps.0 in
+    omega arith

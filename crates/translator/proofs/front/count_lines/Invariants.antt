@@ -1,8 +1,0 @@
-use Rattle.std.proofs.Common.{◌≡◌, ◌+◌, ◌-◌, ◌≤◌}
-use Rattle.language.specs.Basics.{count}
-use Rattle.language.specs.Lines.{is}
-use Rattle.language.specs.OnSheet.{lines_at}
-use Rattle.translator.proofs.front.count_lines.Given as goal
-
-abbrev pub invariant-loop-i : goal.invariant-loop-i
-invariant-loop-i l = (l.found ≤ l._i) × (l.found + count (is l.opener) (lines_at l.rows l.at (l.lines - l._i)) ≡ count (is l.opener) (lines_at l.rows 0 l.lines))
