@@ -14,6 +14,9 @@ use std::alloc::{AllocError, Global};
 use std::fmt;
 use std::fmt::Display;
 
+#[cfg(test)]
+mod tests;
+
 // What a scan's line shows: its number, the processes, the cells as raw numbers, the outputs and the steps.
 #[derive(Clone, Copy)]
 struct ScanLine<'a> {

@@ -1,5 +1,5 @@
 -- How a text goes on that begins with the print of a list, and when it cannot.
-use Rattle.std.proofs.Common.{◌≡◌, ℕ, suc, ◌+◌, ◌-◌, ◌^◌, ◌<◌, ◌≤◌, Bool, true, List, [], ◌∷◌, ◌++◌, length, get_or, take, ℤ, pos, negsuc, None, Ok, Err, decimal, Option, Result, sym, refl, ap, ◌∙◌, append_assoc, arith, length-append, w32, SFits}
+use Rattle.std.proofs.Common.{◌≡◌, ℕ, suc, ◌+◌, ◌-◌, ◌^◌, ◌<◌, Bool, true, List, [], ◌∷◌, ◌++◌, length, get_or, take, ℤ, pos, negsuc, None, Ok, Err, decimal, Option, Result, sym, refl, ap, ◌∙◌, append_assoc, arith, length-append, w32, SFits}
 use lib.Signed.{mag}
 use Rattle.std.specs.Int.{IsInRange}
 use Rattle.std.specs.Fmt.{signed_decimal}
@@ -7,7 +7,7 @@ use Rattle.std.specs.Option.{ok_or}
 use Rattle.std.specs.List.{prefix_len, AllByRecursion}
 use Rattle.std.proofs.ByRecursion.{All-from_get_or, All-push}
 use Rattle.std.proofs.lemmas.List.{append_cancel_left, drop_at, flat_map_more, take-append-drop, take_at}
-use Rattle.numerals.specs.Print.{Kept, items, shown_list}
+use Rattle.numerals.specs.Print.{items, shown_list}
 use Rattle.lists.specs.declared.ListError.{ListError}
 use Rattle.lists.specs.declared.ListError.TheVariants.{NotAList, NoMemory}
 use Rattle.lists.specs.Read.{ListRead, NoList}
@@ -87,10 +87,6 @@ pub values_refused : (head input text : List ℕ) (before after : List ℤ) (e :
 values_refused head input text before after NotAList front none = no_list head input text front none
 values_refused head input text before after NoMemory front none = tt
 
--- The values that were there before are kept.
-pub passed_kept : (text left : List ℕ) (before after : List ℤ) → Passed text left before after → Kept before after
-passed_kept text left before after p = rw p.values (take_at before p.vs (length before) refl)
-
 -- A space and a value more.
 items_push : (vs : List ℤ) (v : ℤ) (rest : List ℕ) → items (vs ++ v ∷ []) ++ rest ≡ items vs ++ 32 ∷ (signed_decimal v ++ rest)
 items_push vs v rest = ap (λ x. x ++ rest) (sym (flat_map_more (λ w. 32 ∷ signed_decimal w) [] vs v)) ∙ append_assoc (items vs) (32 ∷ signed_decimal v) rest
@@ -107,16 +103,13 @@ passed_more text left item bytes rest before after more v p space first others f
   decides = λ none. p.decides (no_ending_after left item space (λ w ws end fit fits t b. none ws end fits (others ∙ b)));
 }
 
--- A line that ends behind the values is read whole, and has no more bytes than there are.
+-- A line that ends behind the values is read whole.
 module _ (head input text end rest : List ℕ) (before after : List ℤ) (front : input ≡ 40 ∷ (head ++ text)) (p : Passed text end before after) (close : end ≡ 41 ∷ 10 ∷ rest) where
   whole : input ≡ shown_list head p.vs ++ rest
   whole = front ∙ ap (λ x. 40 ∷ (head ++ x)) (p.front ∙ ap (λ x. items p.vs ++ x) close) ∙ sym (shown_ending head p.vs rest)
 
   size : length input ≡ length (shown_list head p.vs) + length rest
   size = ap length whole ∙ length-append (shown_list head p.vs) rest
-
-  pub rest_within : length rest ≤ length input
-  rest_within = omega (arith, size)
 
   pub list_read : ListRead head input before (Ok (length input - length rest)) after
   list_read =

@@ -1,9 +1,9 @@
 -- Rows read one after another.
-use Rattle.std.proofs.Common.{◌≡◌, ℕ, ◌-◌, ◌<◌, ◌≤◌, true, false, eqb, List, [], ◌∷◌, ◌++◌, map, length, take, drop, ℤ, Ok, Err, codes, sym, ap, ◌∙◌, subst, append_assoc, arith, length-append, w32, SFits}
+use Rattle.std.proofs.Common.{◌≡◌, ℕ, ◌-◌, false, eqb, List, [], ◌∷◌, ◌++◌, map, length, take, drop, ℤ, Ok, Err, codes, sym, ap, ◌∙◌, subst, append_assoc, arith, w32, SFits}
 use Rattle.std.specs.List.{AllByRecursion}
 use Rattle.std.proofs.ByRecursion.{All-push}
-use Rattle.std.proofs.lemmas.List.{append-nil, flat_map_more, map_push, nil_from_length, take-append-drop, take_rest}
-use Rattle.std.proofs.lemmas.Bool.{eqb-false, eqb-true}
+use Rattle.std.proofs.lemmas.List.{flat_map_more, map_push, take-append-drop, take_rest}
+use Rattle.std.proofs.lemmas.Bool.{eqb-false}
 use Rattle.numerals.specs.Print.{shown_list}
 use Rattle.lists.specs.declared.ListError.{ListError}
 use Rattle.lists.specs.declared.ListError.TheVariants.{NotAList, NoMemory}
@@ -57,18 +57,6 @@ passed_more items width text left rest rows more row p found pushed =
       front = p.front ∙ ap (λ x. shown ++ x) found.1 ∙ sym (append_assoc shown (shown_row_line (items row)) rest) ∙ ap (λ x. x ++ rest) (flat_map_more shown_row_line [] (map items rows) (items row) ∙ ap shown_rows (sym all));
       decides = λ none. p.decides (row_decides width left rest (items row) found.0 found.1 none);
     }
-
--- A line of a row has bytes.
-pub row_shorter : (left rest : List ℕ) (row : List ℤ) → left ≡ shown_row_line row ++ rest → length rest < length left
-row_shorter left rest row e = omega (arith, ap length e, length-append (shown_row_line row) rest)
-
--- All rows were read.
-pub passed_all : (width : ℕ) (text left : List ℕ) (rows : List (List ℤ)) → 1 ≤ width → PassedRows width text left rows → true ≡ eqb (length left) 0 → WholeRows width text rows
-passed_all width text left rows some p none = record {
-  some = some;
-  each = p.each;
-  print = p.front ∙ ap (λ x. shown_rows rows ++ x) (nil_from_length left (eqb-true (length left) 0 (sym none))) ∙ append-nil (shown_rows rows);
-}
 
 -- Something is left that begins with no row.
 passed_no_row : (width : ℕ) (text left : List ℕ) (rows : List (List ℤ)) → PassedRows width text left rows → false ≡ eqb (length left) 0 → ((row : List ℤ) (rest : List ℕ) → RowOf width row → left ≡ shown_row_line row ++ rest → ⊥) → (all : List (List ℤ)) → WholeRows width text all → ⊥

@@ -1,7 +1,7 @@
 -- A bracket and the head, the values, and the end of the line.
 use Rattle.std.proofs.Common.{vec_items}
 use Rattle.std.proofs.lemmas.Result.{err_from_is_err_and}
-use Rattle.lists.proofs.Lines.{list_read, no_ending, no_front, no_list, no_value, rest_within, values_refused}
+use Rattle.lists.proofs.Lines.{list_read, no_ending, no_front, no_list, no_value, values_refused}
 use Rattle.lists.proofs.read_line.Goals as goal
 
 pub returns-in_err-text-clause-answer : goal.returns-in_err-text-clause-answer
@@ -25,12 +25,6 @@ returns-in_err-rest-clause-answer c =
     let passed = c.in_ok-end.ensures.answer in
     rw (p.1, p.2, no_value c.after.result c.in_err-rest.field-0.0 c.in_err-rest.ensures.ok_part c.in_err-rest.ensures.value)
     (no_list c.args.head.now c.args.input.now c.in_ok-text.text.now front (passed.0.decides (no_ending c.in_ok-end.end.now passed.1 none)))
-
-pub overflow_sub-result : goal.overflow_sub-result
-overflow_sub-result c =
-    let front = rw c.in_ok-text.ensures.ok_part at c.after_head.ensures in
-    let close = rw c.in_ok-rest.ensures.ok_part at c.after.ensures in
-    rest_within c.args.head.now c.args.input.now c.in_ok-text.text.now c.in_ok-end.end.now c.in_ok-rest.rest.now _ _ front c.in_ok-end.ensures.answer.0 close
 
 pub returns-clause-answer : goal.returns-clause-answer
 returns-clause-answer c =

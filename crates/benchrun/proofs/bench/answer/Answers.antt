@@ -1,12 +1,8 @@
 -- A sheet and a code of the right lengths are lent.
 use Rattle.std.proofs.Common.{◌≡◌, length, vec_items, rules}
-use Rattle.std.proofs.lemmas.Result.{IfOk-from_err}
 use Rattle.benchrun.specs.Bench.{sheet_rows, code_room}
 use Rattle.benchrun.proofs.Outcomes.{at_lengths}
 use Rattle.benchrun.proofs.bench.answer.Goals as goal
-
-pub returns-in_err-code : goal.returns-in_err-code
-returns-in_err-code c = IfOk-from_err _ _ c.from_residual-in_err-code.ensures.0
 
 pub returns : goal.returns
 returns c =

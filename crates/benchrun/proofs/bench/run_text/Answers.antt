@@ -1,5 +1,5 @@
 -- The code in front is run, or the refusal is told.
-use Rattle.std.proofs.Common.{◌≡◌, ◌≤◌, length, Some, vec_items, sym, subst, rules}
+use Rattle.std.proofs.Common.{◌≡◌, length, Some, vec_items, sym, subst}
 use Rattle.std.proofs.lemmas.Result.{IfOk-weaker}
 use Rattle.language.specs.Translation.{translation}
 use Rattle.playback.proofs.Runs.{told_by}
@@ -9,11 +9,6 @@ use Rattle.checks.specs.Refusals.{refusal_number, refusal_line as refusal-place}
 use Rattle.benchrun.specs.Bench.{Answered, no_code, ran}
 use Rattle.benchrun.proofs.Outcomes.{wrote_words, told_refusal}
 use Rattle.benchrun.proofs.bench.run_text.Goals as goal
-
-pub slice_bounds-run_code-end : goal.slice_bounds-run_code-end
-slice_bounds-run_code-end c =
-    let h : c.in-Ok.n ≤ length c.translate.new.code = (wrote_words (translation c.args.text.now (length c.args.sheet.now) (length c.args.code.now)) c.args.code.now c.translate.new.code c.in-Ok.n c.in-Ok.field-0-1 c.in-Ok.ensures).within in
-    search rules
 
 pub returns-in-Ok : goal.returns-in-Ok
 returns-in-Ok c =
