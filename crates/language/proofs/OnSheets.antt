@@ -11,7 +11,7 @@ use Rattle.language.specs.Named.{Term, Act, Line}
 use Rattle.language.specs.House.{house}
 use Rattle.language.specs.Grammar.{Item, as_word, as_number, as_term, as_act, as_house, as_kind, as_opener, takes, ends, either_way, acts, body, term_row, act_row, form_row, line_row, kind_named, opens, item, items, line}
 use Rattle.language.specs.Causes.{lines, unfit, first_unfit}
-use Rattle.language.specs.OnSheet.{inner_row, second_row, third_row, fourth_row, word_in, word_at, digits_in, digits_at, house_in, house_at, count_in, count_at, statement_view, house_act, act_view, row_view, house_view, head_view, term_of, term_at, act_of, act_at, acts_of, line_of, line_at, lines_at}
+use Rattle.language.specs.OnSheet.{inner_row, second_row, third_row, fourth_row, word_in, word_at, digits_in, digits_at, house_in, house_at, count_in, count_at, statement_view, house_act, act_view, row_view, house_view, head_view, term_of, term_at, act_of, act_at, acts_of, line_of, line_at, lines_at, term_seen, act_seen}
 use Rattle.language.specs.declared.house.Opener.{Opener}
 use Rattle.language.specs.declared.house.Opener.TheVariants.{Kind, Tact, Const, State}
 use Rattle.language.specs.declared.house.TermHead.{TermHead}
@@ -138,12 +138,12 @@ module _ (d : ℕ) (rows : List Row) (at : ℕ) (T : ℕ → Term) (part : (p : 
   term_head_read k _ r =
       takes_read _ rows _ k as_term _ r λ j i a l p q r. takes_read _ rows _ j as_term _ r λ j i b l p' q' r. ends_read _ rows _ j _ r λ l e. cc (part _ _ _ p q, part _ _ _ p' q')
 
-  term_house_read : (k : ℕ) (h : House) {i : Item} {e : Term} → and_then (items_of d rows (second_row rows at) k) (form_row h) ≡ Some i → as_term i ≡ Some e → term_of rows at T (house_view rows at (Some h)) ≡ e
+  term_house_read : (k : ℕ) (h : House) {i : Item} {e : Term} → and_then (items_of d rows (second_row rows at) k) (form_row h) ≡ Some i → as_term i ≡ Some e → term_seen rows at T (house_view rows at (Some h)) ≡ e
   term_house_read k (Expression h) r q = changed_read _ Item.term (term_row h) r λ e' p f. term_head_read k h p ∙ same_value (ap as_term f ∙ q)
   term_house_read k (Statement h) r q = absurd (acting_no_term _ (subst (Keeps Acting) r (then_keeps Acting _ (act_row h) (acting h))) q)
   term_house_read k _ r q = never_read _ r
 
-  term_row_read : (x : Row) → row_at rows at ≡ x → {i : Item} {e : Term} → item (shape (items_at (form_at d rows) rows (inner_row rows at)) x) ≡ Some i → as_term i ≡ Some e → term_of rows at T (row_view rows at x) ≡ e
+  term_row_read : (x : Row) → row_at rows at ≡ x → {i : Item} {e : Term} → item (shape (items_at (form_at d rows) rows (inner_row rows at)) x) ≡ Some i → as_term i ≡ Some e → term_seen rows at T (row_view rows at x) ≡ e
   term_row_read (WordRow w) x r q = ap (λ y. Term.named (word_in y)) x ∙ same_value (ap as_term (same_value r) ∙ q)
   term_row_read (NumberRow w) x r q = ap (λ y. Term.number (digits_in y)) x ∙ same_value (ap as_term (same_value r) ∙ q)
   term_row_read (Items k n) x r q = takes_read _ rows _ k as_house form_row r λ j i h l p s t. rw (house_as d rows _ p s) (term_house_read j h t q)
@@ -202,12 +202,12 @@ module _ (d : ℕ) (rows : List Row) (A : ℕ → Act) (part : (p : ℕ) (i : It
     act-head-read k act_head.After c r = takes_read _ rows _ k as_number _ r λ j i n l p q r. takes_read _ rows _ j as_act _ r λ j i e l p' q' r. ends_read _ rows _ j _ r λ l f. cc (ap statement f, number_as d rows _ p q, act_as _ _ p' q')
     act-head-read k _ c r = ends_read _ rows _ k _ r λ l f. cc (ap statement f)
 
-    act-house-read : (k : ℕ) (h : House) {i : Item} {s : Act} → count_at rows at ≡ suc k → and_then (items_of d rows (second_row rows at) k) (form_row h) ≡ Some i → statement i ≡ Some s → act_of rows T A (house_act rows at (Some h)) ≡ s
+    act-house-read : (k : ℕ) (h : House) {i : Item} {s : Act} → count_at rows at ≡ suc k → and_then (items_of d rows (second_row rows at) k) (form_row h) ≡ Some i → statement i ≡ Some s → act_seen rows T A (house_act rows at (Some h)) ≡ s
     act-house-read k (Expression h) c r q = changed_read (items_of d rows (second_row rows at) k) Item.term (term_row h) r λ e p f. absurd (no_value (ap statement f ∙ q))
     act-house-read k (Statement h) c r q = same_value (sym (act-head-read k h c r) ∙ q)
     act-house-read k _ c r q = never_read _ r
 
-    act-row-read : (x : Row) → row_at rows at ≡ x → {i : Item} {s : Act} → item (shape (items_at (form_at d rows) rows (inner_row rows at)) x) ≡ Some i → statement i ≡ Some s → act_of rows T A (act_view rows at) ≡ s
+    act-row-read : (x : Row) → row_at rows at ≡ x → {i : Item} {s : Act} → item (shape (items_at (form_at d rows) rows (inner_row rows at)) x) ≡ Some i → statement i ≡ Some s → act_seen rows T A (act_view rows at) ≡ s
     act-row-read (WordRow w) x r q = absurd (no_value (ap statement (same_value r) ∙ q))
     act-row-read (NumberRow w) x r q = absurd (no_value (ap statement (same_value r) ∙ q))
     act-row-read (Items k n) x r q = takes_read _ rows _ k as_house form_row r λ j i h l p s t. rw (house_as d rows _ p s) (act-house-read j h (ap count_in x ∙ l) t q)

@@ -17,11 +17,11 @@ use Rattle.language.specs.declared.house.ActHead.TheVariants as act_head
 use Rattle.language.specs.declared.house.House.{House}
 use Rattle.language.specs.declared.house.House.TheVariants.{Expression, Statement}
 use Rattle.language.specs.declared.view.TermView.{TermView}
-use Rattle.language.specs.declared.view.TermView.TheVariants.{Number, Name, Two, Not, And, Or, Ask, Odd}
+use Rattle.language.specs.declared.view.TermView.TheVariants.{Number, Name, Two, Not, And, Or, Ask}
 use Rattle.language.specs.declared.view.Change.{Change}
 use Rattle.language.specs.declared.view.Change.TheVariants.{Go, Next, Start, Restart, Stop, Halt, Fail, Reset}
 use Rattle.language.specs.declared.view.ActView.{ActView}
-use Rattle.language.specs.declared.view.ActView.TheVariants.{Put, When, Choose, Do, After, Set, Odd as OddAct}
+use Rattle.language.specs.declared.view.ActView.TheVariants.{Put, When, Choose, Do, After, Set}
 
 -- The row at which a form's items begin.
 abbrev pub inner_row : List Row → ℕ → ℕ
@@ -82,16 +82,16 @@ head_view rows at term_head.Or = Or (second_row rows at) (third_row rows at)
 head_view rows at (term_head.Ask q) = Ask q (second_row rows at)
 
 -- The expression at a row, taken apart.
-abbrev pub house_view : List Row → ℕ → Option House → TermView
-house_view rows at (Some (Expression h)) = head_view rows at h
-house_view rows at _ = Odd
+abbrev pub house_view : List Row → ℕ → Option House → Option TermView
+house_view rows at (Some (Expression h)) = Some (head_view rows at h)
+house_view rows at _ = None
 
-abbrev pub row_view : List Row → ℕ → Row → TermView
-row_view rows at (WordRow w) = Name
-row_view rows at (NumberRow w) = Number
+abbrev pub row_view : List Row → ℕ → Row → Option TermView
+row_view rows at (WordRow w) = Some Name
+row_view rows at (NumberRow w) = Some Number
 row_view rows at (FormRow k n) = house_view rows at (house_at rows (inner_row rows at))
 
-abbrev pub term_view : List Row → ℕ → TermView
+abbrev pub term_view : List Row → ℕ → Option TermView
 term_view rows at = row_view rows at (row_at rows at)
 
 -- The statement that a word begins: an `if` of three items has no second statement, a `stop` of one item is for the own process.
@@ -109,11 +109,11 @@ statement_view rows at act_head.Fail = Set Fail
 statement_view rows at act_head.Reset = Set Reset
 
 -- The statement at a row, taken apart.
-abbrev pub house_act : List Row → ℕ → Option House → ActView
-house_act rows at (Some (Statement h)) = statement_view rows at h
-house_act rows at _ = OddAct
+abbrev pub house_act : List Row → ℕ → Option House → Option ActView
+house_act rows at (Some (Statement h)) = Some (statement_view rows at h)
+house_act rows at _ = None
 
-abbrev pub act_view : List Row → ℕ → ActView
+abbrev pub act_view : List Row → ℕ → Option ActView
 act_view rows at = house_act rows at (house_at rows (inner_row rows at))
 
 -- The expression that a view shows, its parts given by their rows.
@@ -125,12 +125,16 @@ term_of rows at T (Not a) = Term.isnt (T a)
 term_of rows at T (And a b) = Term.both (T a) (T b)
 term_of rows at T (Or a b) = Term.either (T a) (T b)
 term_of rows at T (Ask q p) = Term.ask q (word_at rows p)
-term_of rows at T Odd = Term.number []
+
+-- The same of a row that may show none.
+abbrev pub term_seen : List Row → ℕ → (ℕ → Term) → Option TermView → Term
+term_seen rows at T None = Term.number []
+term_seen rows at T (Some view) = term_of rows at T view
 
 -- The expression at a row, read at most d deep.
 abbrev pub term_at : ℕ → List Row → ℕ → Term
 term_at zero rows at = Term.number []
-term_at (suc d) rows at = term_of rows at (term_at d rows) (term_view rows at)
+term_at (suc d) rows at = term_seen rows at (term_at d rows) (term_view rows at)
 
 -- Statements one behind another.
 abbrev pub sequence : List Act → Act
@@ -163,12 +167,16 @@ act_of rows T A (Choose e s t) = Act.choose (T e) (A s) (A t)
 act_of rows T A (Do p k) = acts_of A rows p k
 act_of rows T A (After n s) = Act.after (digits_at rows n) (A s)
 act_of rows T A (Set c) = change_of rows c
-act_of rows T A OddAct = Act.pass
+
+-- The same of a row that may show none.
+abbrev pub act_seen : List Row → (ℕ → Term) → (ℕ → Act) → Option ActView → Act
+act_seen rows T A None = Act.pass
+act_seen rows T A (Some view) = act_of rows T A view
 
 -- The statement at a row, read at most d deep.
 abbrev pub act_at : ℕ → List Row → ℕ → Act
 act_at zero rows at = Act.pass
-act_at (suc d) rows at = act_of rows (term_at d rows) (act_at d rows) (act_view rows at)
+act_at (suc d) rows at = act_seen rows (term_at d rows) (act_at d rows) (act_view rows at)
 
 -- The body of the state line at a row: its items behind the name.
 abbrev pub body_at : List Row → ℕ → Act

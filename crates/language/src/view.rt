@@ -16,7 +16,6 @@ pub enum TermView {
     And(usize, usize),
     Or(usize, usize),
     Ask(Enquiry, usize),
-    Odd,
 }
 
 // A statement that sets a state or a clock, and the row of the name that it takes.
@@ -41,7 +40,6 @@ pub enum ActView {
     Do(usize, usize),
     After(usize, usize),
     Set(Change),
-    Odd,
 }
 
 // The row at which a form's items begin.
@@ -137,16 +135,16 @@ fn head_view(rows: &[Row], at: usize, head: TermHead) -> TermView
     }
 }
 
-// The expression at a row, taken apart.
-pub fn term_view(rows: &[Row], at: usize) -> TermView
+// The expression at a row, taken apart; None where there is none.
+pub fn term_view(rows: &[Row], at: usize) -> Option<TermView>
     ensures { result ≡ term_view rows.now at }
 {
     match row_at(rows, at) {
-        Row::Word(_) => TermView::Name,
-        Row::Number(_) => TermView::Number,
+        Row::Word(_) => Some(TermView::Name),
+        Row::Number(_) => Some(TermView::Number),
         Row::Items(_, _) => match house_at(rows, inner_row(rows, at)) {
-            Some(House::Expression(head)) => head_view(rows, at, head),
-            _ => TermView::Odd,
+            Some(House::Expression(head)) => Some(head_view(rows, at, head)),
+            _ => None,
         },
     }
 }
@@ -175,12 +173,12 @@ fn statement_view(rows: &[Row], at: usize, head: ActHead) -> ActView
     }
 }
 
-// The statement at a row, taken apart.
-pub fn act_view(rows: &[Row], at: usize) -> ActView
+// The statement at a row, taken apart; None where there is none.
+pub fn act_view(rows: &[Row], at: usize) -> Option<ActView>
     ensures { result ≡ act_view rows.now at }
 {
     match house_at(rows, inner_row(rows, at)) {
-        Some(House::Statement(head)) => statement_view(rows, at, head),
-        _ => ActView::Odd,
+        Some(House::Statement(head)) => Some(statement_view(rows, at, head)),
+        _ => None,
     }
 }

@@ -26,7 +26,10 @@ fn is_within(digits: &[u8], low: i32, high: i32) -> bool
 fn is_timely(rows: &[Row], at: usize) -> bool
     ensures { result ≡ timely (act_at 12 rows.now at) }
 {
-    match act_view(rows, at) {
+    let Some(view) = act_view(rows, at) else {
+        return true;
+    };
+    match view {
         ActView::After(n, _) => is_within(digits_at(rows, n), 0, LONGEST_TIMEOUT),
         _ => true,
     }

@@ -38,7 +38,7 @@ fn term_view_size(rows: &[Row], at: usize, view: TermView, left: usize) -> usize
     ensures { result ≡ capped (term_size (term_of rows.now at (term_at left rows.now) view)) }
 {
     match view {
-        TermView::Number | TermView::Name | TermView::Odd => 1,
+        TermView::Number | TermView::Name => 1,
         TermView::Two(_, a, b) => plus(plus(term_size(rows, a, left), term_size(rows, b, left)), 1),
         TermView::Not(a) => plus(term_size(rows, a, left), 1),
         TermView::And(a, b) | TermView::Or(a, b) => plus(
@@ -55,9 +55,11 @@ pub fn term_size(rows: &[Row], at: usize, left: usize) -> usize
     ensures { result ≡ capped (term_size (term_at left rows.now at)) }
 {
     if left == 0 {
-        1
-    } else {
-        term_view_size(rows, at, term_view(rows, at), left - 1)
+        return 1;
+    }
+    match term_view(rows, at) {
+        Some(view) => term_view_size(rows, at, view, left - 1),
+        None => 1,
     }
 }
 
@@ -76,7 +78,6 @@ fn act_view_size(rows: &[Row], view: ActView, left: usize) -> usize
         ActView::Do(first, count) => acts_size(Items { rows, first, count }, left),
         ActView::After(_, s) => plus(act_size(rows, s, left), 2),
         ActView::Set(_) => 1,
-        ActView::Odd => 0,
     }
 }
 
@@ -86,9 +87,11 @@ pub fn act_size(rows: &[Row], at: usize, left: usize) -> usize
     ensures { result ≡ capped (act_size (act_at left rows.now at)) }
 {
     if left == 0 {
-        0
-    } else {
-        act_view_size(rows, act_view(rows, at), left - 1)
+        return 0;
+    }
+    match act_view(rows, at) {
+        Some(view) => act_view_size(rows, view, left - 1),
+        None => 0,
     }
 }
 

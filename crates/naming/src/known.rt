@@ -45,7 +45,7 @@ fn term_view_known(rows: &[Row], lines: Items, at: usize, view: TermView, left: 
     ensures { result ≡ term_known_in lines.entry (term_of rows.now at (term_at left rows.now) view) }
 {
     match view {
-        TermView::Number | TermView::Odd => true,
+        TermView::Number => true,
         TermView::Name => thing_named(lines, word_at(rows, at)).is_some(),
         TermView::Two(_, a, b) | TermView::And(a, b) | TermView::Or(a, b) => {
             term_known(rows, lines, a, left) && term_known(rows, lines, b, left)
@@ -61,9 +61,11 @@ fn term_known(rows: &[Row], lines: Items, at: usize, left: usize) -> bool
     ensures { result ≡ term_known_in lines.entry (term_at left rows.now at) }
 {
     if left == 0 {
-        true
-    } else {
-        term_view_known(rows, lines, at, term_view(rows, at), left - 1)
+        return true;
+    }
+    match term_view(rows, at) {
+        Some(view) => term_view_known(rows, lines, at, view, left - 1),
+        None => true,
     }
 }
 
@@ -96,7 +98,6 @@ fn act_view_known(rows: &[Row], scope: Scope, view: ActView, left: usize) -> boo
         ActView::Do(first, count) => acts_known(scope, Items { rows, first, count }, left),
         ActView::After(_, s) => act_known(rows, scope, s, left),
         ActView::Set(change) => change_known(rows, scope, change),
-        ActView::Odd => true,
     }
 }
 
@@ -106,9 +107,11 @@ fn act_known(rows: &[Row], scope: Scope, at: usize, left: usize) -> bool
     ensures { result ≡ known_in scope.entry (act_at left rows.now at) }
 {
     if left == 0 {
-        true
-    } else {
-        act_view_known(rows, scope, act_view(rows, at), left - 1)
+        return true;
+    }
+    match act_view(rows, at) {
+        Some(view) => act_view_known(rows, scope, view, left - 1),
+        None => true,
     }
 }
 

@@ -32,7 +32,7 @@ fn view_has_next(rows: &[Row], view: ActView, left: usize) -> bool
         ActView::Choose(_, s, t) => has_next(rows, s, left) || has_next(rows, t, left),
         ActView::Do(first, count) => have_next(Items { rows, first, count }, left),
         ActView::Set(change) => is_next(change),
-        ActView::Put(_, _) | ActView::Odd => false,
+        ActView::Put(_, _) => false,
     }
 }
 
@@ -42,9 +42,11 @@ fn has_next(rows: &[Row], at: usize, left: usize) -> bool
     ensures { result ≡ has_next (act_at left rows.now at) }
 {
     if left == 0 {
-        false
-    } else {
-        view_has_next(rows, act_view(rows, at), left - 1)
+        return false;
+    }
+    match act_view(rows, at) {
+        Some(view) => view_has_next(rows, view, left - 1),
+        None => false,
     }
 }
 

@@ -126,7 +126,6 @@ fn emit_view(
         TermView::And(a, b) => emit_and(sheet, a, b, left, code, p),
         TermView::Or(a, b) => emit_or(sheet, a, b, left, code, p),
         TermView::Ask(enquiry, name) => emit_enquiry(sheet, enquiry, name, code, p),
-        TermView::Odd => (put(code, p, Instr::Push(Source::Lit(0))), 1),
     }
 }
 
@@ -146,6 +145,8 @@ pub(crate) fn emit_term(
     if left == 0 {
         return (put(code, p, Instr::Push(Source::Lit(0))), 1);
     }
-    let view = term_view(sheet.lines.rows, at);
-    emit_view(sheet, at, view, left - 1, code, p)
+    match term_view(sheet.lines.rows, at) {
+        Some(view) => emit_view(sheet, at, view, left - 1, code, p),
+        None => (put(code, p, Instr::Push(Source::Lit(0))), 1),
+    }
 }

@@ -126,7 +126,6 @@ fn emit_parts(site: Site, view: ActView, left: usize, code: &mut [i32], p: usize
             (next, 2 + n)
         }
         ActView::Set(change) => emit_change(site, change, code, p),
-        ActView::Odd => (p, 0),
     }
 }
 
@@ -140,8 +139,10 @@ fn emit_act(site: Site, at: usize, left: usize, code: &mut [i32], p: usize) -> (
     if left == 0 {
         return (p, 0);
     }
-    let view = act_view(site.sheet.lines.rows, at);
-    emit_parts(site, view, left - 1, code, p)
+    match act_view(site.sheet.lines.rows, at) {
+        Some(view) => emit_parts(site, view, left - 1, code, p),
+        None => (p, 0),
+    }
 }
 
 // How deep the forms of a body nest at most.

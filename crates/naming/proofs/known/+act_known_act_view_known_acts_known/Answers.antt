@@ -5,8 +5,13 @@ use Rattle.language.proofs.Depth.{act_at_more}
 use Rattle.naming.specs.Scopes.{known_in}
 use Rattle.naming.proofs.known.+act_known_act_view_known_acts_known.Goals as goal
 
-pub act_known-returns-else-left-eq0 : goal.act_known-returns-else-left-eq0
-act_known-returns-else-left-eq0 t c =
+pub act_known-returns-in-Some : goal.act_known-returns-in-Some
+act_known-returns-in-Some t c =
+    let e = act_at_more c.args.left c.args.rows.now c.args.at c.if-left-eq0.false in
+    search rules
+
+pub act_known-returns-in-None : goal.act_known-returns-in-None
+act_known-returns-in-None t c =
     let e = act_at_more c.args.left c.args.rows.now c.args.at c.if-left-eq0.false in
     search rules
 

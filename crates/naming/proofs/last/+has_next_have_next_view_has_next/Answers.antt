@@ -5,8 +5,13 @@ use Rattle.language.specs.Resolve.{has_next}
 use Rattle.language.proofs.Depth.{act_at_more}
 use Rattle.naming.proofs.last.+has_next_have_next_view_has_next.Goals as goal
 
-pub has_next-returns-else-left-eq0 : goal.has_next-returns-else-left-eq0
-has_next-returns-else-left-eq0 t c =
+pub has_next-returns-in-Some : goal.has_next-returns-in-Some
+has_next-returns-in-Some t c =
+    let e = act_at_more c.args.left c.args.rows.now c.args.at c.if-left-eq0.false in
+    search rules
+
+pub has_next-returns-in-None : goal.has_next-returns-in-None
+has_next-returns-in-None t c =
     let e = act_at_more c.args.left c.args.rows.now c.args.at c.if-left-eq0.false in
     search rules
 

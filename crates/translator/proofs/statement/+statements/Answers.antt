@@ -7,12 +7,12 @@ use Rattle.translator.proofs.statement.+statements.Goals as goal
 
 pub emit_act-emit_parts-requires : goal.emit_act-emit_parts-requires
 emit_act-emit_parts-requires t c =
-    let h = ap act_size (act_step c.args.left c.args.site.sheet.lines.rows.now c.args.at c.act_view-view.result c.if-left-eq0.false c.act_view-view.ensures) in
+    let h = ap act_size (act_step c.args.left c.args.site.sheet.lines.rows.now c.args.at c.in-Some.view c.if-left-eq0.false c.in-Some.ensures) in
     search rules
 
-pub emit_act-returns : goal.emit_act-returns
-emit_act-returns t c =
-    let h = act_step c.args.left c.args.site.sheet.lines.rows.now c.args.at c.act_view-view.result c.if-left-eq0.false c.act_view-view.ensures in
+pub emit_act-returns-in-Some : goal.emit_act-returns-in-Some
+emit_act-returns-in-Some t c =
+    let h = act_step c.args.left c.args.site.sheet.lines.rows.now c.args.at c.in-Some.view c.if-left-eq0.false c.in-Some.ensures in
     rw h c.emit_parts.ensures
 
 pub emit_acts-emit_act-behind-requires : goal.emit_acts-emit_act-behind-requires
