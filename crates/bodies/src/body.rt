@@ -10,6 +10,7 @@ use refusals::Fault;
 
 impl<K: Kind> Running<'_, K> {
     // Runs the body whose first instruction is `first` and stands at the front of `words`: the steps taken.
+    // The code is taken apart by a slice pattern, so place and steps are counted beside it.
     pub(crate) fn run(&mut self, turn: Turn, words: &[i32], first: usize) -> Result<u32, Fault>
         requires size { first * 2 + length words.now ≤ 8192 }
         requires sound { Sound (length self.old.cells.now) first words.now }

@@ -4,6 +4,7 @@ ghost use Rattle.std.specs.Prelude.{◌<◌, ◌≤◌, length};
 use board::Board;
 
 // What a scan changes as it runs: the cells, the stack and its depth, the board, the levels put.
+// The working memory is lent, so the stack is a slice with its depth beside it.
 #[derive(Drop)]
 pub(crate) struct Running<'a, K> {
     pub(crate) cells: &'a mut [K],

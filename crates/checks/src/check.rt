@@ -14,6 +14,7 @@ use shape::order::first_unfit;
 use text::items::Items;
 
 // The first thing that is wrong with names.
+// The causes are asked one by one, in their order: a table of them would want pointers to the functions and to the refusals.
 fn check_names(lines: Items) -> Result<(), Refusal>
     ensures { cause result ≡ first_cause name_causes (forms_of lines.entry) (lines_of lines.entry) }
 {

@@ -46,7 +46,7 @@ fn instruction_fits(head: &Head, i: usize, op: i32, x: i32) -> bool
     operand_fits(head, i, o, x)
 }
 
-// Whether each of the instructions in `words` fits. The slice pattern takes the code apart as the project wants it, so the number is counted beside it.
+// Whether each of the instructions in `words` fits. A code is taken apart by a slice pattern here and where it runs, so the number is counted beside it.
 pub(crate) fn instructions_fit(head: &Head, words: &[i32]) -> bool
     ensures { result ≡ instructions_fit head.now 0 words.now }
 {

@@ -6,7 +6,7 @@ pub mod milli;
 pub mod rounding;
 pub mod worked;
 
-ghost use Rattle.std.specs.Prelude.{◌≡◌, ℤ, Bool, true, false};
+ghost use Rattle.std.specs.Prelude.{◌≡◌, Bool, true, false};
 ghost use Rattle.kinds.specs.Ops.{Ops, flag};
 
 // Why a division has no quotient.
@@ -23,15 +23,9 @@ pub trait Kind: Copy {
     // The kind's number, as the first word of a flat code has it.
     const NUMBER: i32;
 
-    // What clauses see of it.
-    ghost NUMBER: { ℤ };
-
     // The same number, tied to the kind's meaning.
     fn code_word() -> i32
-        ensures { result ≡ ops.number }
-    {
-        Self::NUMBER
-    }
+        ensures { result ≡ ops.number };
 
     // The value that means false.
     fn zero() -> Self
@@ -41,8 +35,8 @@ pub trait Kind: Copy {
     fn one() -> Self
         ensures { result ≡ ops.one };
 
-    // Whether a value counts as true. This and the two comparisons are each kind's own, though two kinds answer alike: a body here would need a law that
-    // truth and order are those of the values, and the theorems about every kind would then hold of fewer.
+    // Whether a value counts as true. This, the two comparisons, the number above and the way from and to a raw number are each kind's own, though two kinds answer alike: a body here would need a law that
+    // truth, order and number are those of the values and the constant, and the theorems about every kind would then hold of fewer.
     fn is_true(self) -> bool
         ensures { result ≡ ops.truth self };
 
@@ -77,9 +71,6 @@ pub trait Kind: Copy {
     // Whether the two are equal.
     fn same(self, to: Self) -> bool
         ensures { result ≡ ops.same self to };
-
-    // The kind's number is the one in its meaning.
-    ghost number_is: { NUMBER ≡ ops.number };
 
     // The kind's one is true.
     ghost one_true: { ops.truth ops.one ≡ true };

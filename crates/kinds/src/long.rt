@@ -3,7 +3,6 @@
 
 ghost use Rattle.kinds.specs.Longs as Longs;
 ghost use Rattle.std.proofs.Common.{rules};
-ghost use Rattle.std.specs.Prelude.{pos};
 
 use crate::{Kind, NoQuotient};
 
@@ -17,13 +16,14 @@ impl Kind for Long {
 
     const NUMBER: i32 = 1;
 
-    ghost NUMBER = { pos 1 };
-
-    ghost number_is = { Prim.search rules };
-
     ghost one_true = { Prim.search rules };
 
     ghost zero_untrue = { Prim.search rules };
+
+    // The kind's number.
+    fn code_word() -> i32 {
+        Self::NUMBER
+    }
 
     // Zero.
     fn zero() -> Long {

@@ -1,7 +1,6 @@
 // Milli: thousandths of 32 bits whose results stop at the ends.
 ghost use Rattle.kinds.specs.Millis as Millis;
 ghost use Rattle.std.proofs.Common.{rules};
-ghost use Rattle.std.specs.Prelude.{pos};
 
 use crate::{Kind, NoQuotient, rounding};
 
@@ -18,13 +17,14 @@ impl Kind for Milli {
 
     const NUMBER: i32 = 2;
 
-    ghost NUMBER = { pos 2 };
-
-    ghost number_is = { Prim.search rules };
-
     ghost one_true = { Prim.search rules };
 
     ghost zero_untrue = { Prim.search rules };
+
+    // The kind's number.
+    fn code_word() -> i32 {
+        Self::NUMBER
+    }
 
     // Zero.
     fn zero() -> Milli {

@@ -14,14 +14,3 @@ term_at_more d rows at h = ap (λ n. term_at n rows at) (less_one h)
 
 pub act_at_more : (d : ℕ) (rows : List Row) (at : ℕ) → d ≢ 0 → act_at d rows at ≡ act_seen rows (term_at (d - 1) rows) (act_at (d - 1) rows) (act_view rows at)
 act_at_more d rows at h = ap (λ n. act_at n rows at) (less_one h)
-
--- Of k statements i are passed: the next one and the others, or none.
-pub acts_more : (A : ℕ → Act) (rows : List Row) (p k i : ℕ) → i < k → acts_of A rows p (k - i) ≡ Act.then (A p) (acts_of A rows (next_row rows p) (k - (i + 1)))
-acts_more A rows p k i h =
-    let e : k - i ≡ suc (k - (i + 1)) = omega arith in
-    ap (acts_of A rows p) e
-
-pub acts_none : (A : ℕ → Act) (rows : List Row) (p k i : ℕ) → k ≤ i → acts_of A rows p (k - i) ≡ Act.pass
-acts_none A rows p k i h =
-    let e : k - i ≡ 0 = omega arith in
-    ap (acts_of A rows p) e

@@ -1,5 +1,4 @@
 pub mod Table
-pub mod Openers
 pub mod Depth
 pub mod Lines
 pub mod Sizes

@@ -1,12 +1,19 @@
 // The lines on a sheet: of what sort each is.
 ghost use Rattle.std.specs.Prelude.{◌≡◌, ◌-◌};
-ghost use Rattle.language.specs.Lines.{sort, is};
+ghost use Rattle.language.specs.Lines.{sort, rank, is};
 ghost use Rattle.language.specs.OnSheet.{line_at, third_row, count_at};
 
 use crate::house::Opener;
 use crate::view::{count_at, opener_at, third_row};
 use text::items::Items;
 use text::row::Row;
+
+// The place of a sort in the order of lines.
+pub fn rank(opener: Opener) -> u32
+    ensures { result ≡ rank opener }
+{
+    opener as u32 + 1
+}
 
 // The sort of the line at a row; one that opens no line counts as a kind.
 #[tactic(auto, unfolding(crate::specs::OnSheet::line_at))]

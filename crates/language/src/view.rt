@@ -50,6 +50,7 @@ pub fn inner_row(rows: &[Row], at: usize) -> usize
 }
 
 // The row of a form's second item.
+// Second, third and fourth by name and not by a number: each contract and each caller wants one of the three.
 pub fn second_row(rows: &[Row], at: usize) -> usize
     ensures { result ≡ second_row rows.now at }
 {

@@ -34,6 +34,7 @@ fn is_past_limit(rows: &[Row], at: usize, behind: Items, before: Tally, with: Ta
 }
 
 // The first line that does.
+// By split_first: a limit looks at the lines behind, which a walk does not hand out.
 pub fn first_past(lines: Items) -> Option<usize>
     ensures { result ≡ first_where past_limit 1 [] (lines_of lines.entry) }
 {

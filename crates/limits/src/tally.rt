@@ -6,7 +6,7 @@ ghost use Rattle.language.specs.Sizes.{capped};
 ghost use Rattle.limits.specs.Tallies.{place, full, tally_of, with_line};
 
 use language::house::Opener;
-use language::line::{is_line, sort_at};
+use language::line::{is_line, rank, sort_at};
 use measure::size::{body_size, plus};
 use text::row::Row;
 
@@ -15,7 +15,7 @@ fn place(sort: Opener) -> usize
     ensures is { result ≡ place sort }
     ensures within { result < 8 }
 {
-    sort as usize
+    rank(sort) as usize - 1
 }
 
 // How many instructions the line at a row takes.

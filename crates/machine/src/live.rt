@@ -28,7 +28,7 @@ pub struct Live<'a> {
 pub(crate) fn is_kind<K: Kind>(word: i32) -> bool
     ensures { result ≡ same_word word K.ops.number }
 {
-    word == K::NUMBER
+    word == K::code_word()
 }
 
 // Whether cells or host lines are too few for a code with this head.
@@ -68,6 +68,7 @@ impl<'a> Live<'a> {
     }
 
     // One scan: samples the host, runs each process in order, and puts the outputs; the answer is the steps taken.
+    // Cells, working memory, board and host are lent one by one: each is the caller's, who uses it between the calls.
     #[tactic(auto, using(bodies::proofs::Runnables::runnable))]
     pub fn scan<K: Kind, H: Host>(
         &mut self,

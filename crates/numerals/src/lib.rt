@@ -1,7 +1,7 @@
 // Decimal numbers and lists of them, as they are printed, and what is printed appended to bytes.
 #![tactic(auto)]
 
-ghost use Rattle.numerals.specs.Print.{Appended, BaseTenDigits, bracketed};
+ghost use Rattle.numerals.specs.Print.{Appended, Kept, BaseTenDigits, bracketed};
 ghost use Rattle.std.specs.Prelude.{Some, IfSome};
 
 use std::alloc::AllocError;
@@ -32,10 +32,11 @@ impl Display for Bracketed<'_> {
     }
 }
 
-// Appends what a value prints; where there is no memory for it, nothing. The digits that a number is printed by are those
-// of base ten.
+// Appends what a value prints; what stood there stays in front, whatever is answered. The digits that a number is printed by
+// are those of base ten.
 pub fn push_shown<D: Display + Drop>(out: &mut Vec<u8>, shown: D) -> Result<(), AllocError>
     ensures digits { BaseTenDigits }
+    ensures kept { Kept out.old.items out.new.items }
     ensures appended { IfSome (D.output shown) (λ new. Appended out.old.items new result out.new.items) }
 {
     let text = shown.to_string(*out.allocator())?;

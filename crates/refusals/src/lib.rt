@@ -48,6 +48,8 @@ pub struct GivenUp {
     pub place: Place,
 }
 
+// The numbers are told by methods and no From: a number is one of the two things that a refusal's line tells.
+
 impl MountRefusal {
     // The number by which the refusal is known.
     pub fn number(self) -> u32

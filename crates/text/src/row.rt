@@ -11,6 +11,7 @@ pub enum Row<'a> {
 }
 
 // The row at a place, and a form of no items beyond the end.
+// A row is named by the sheet and its number: the rows are lent, nothing is allocated, and a struct of both would be made anew for each part of a form.
 pub fn row_at<'a>(rows: &[Row<'a>], at: usize) -> Row<'a>
     ensures { result ≡ row_at rows.now at }
 {

@@ -54,6 +54,7 @@ fn encode_set(control: Control) -> (i32, i32)
 }
 
 // The words of an instruction: its number and its operand.
+// A function and no From: an operand below 2^31 is asked, here and in the three above.
 fn encode(instr: Instr) -> (i32, i32)
     requires { operand instr < 2 ^ 31 }
     ensures { result ≡ encoded instr }
@@ -73,6 +74,8 @@ fn encode(instr: Instr) -> (i32, i32)
 }
 
 // Puts an instruction at a place, and answers the next one.
+// Code and place stay two arguments, and that a code has at most 8,192 words a clause of each function that puts: a struct that bounds them was tried, and
+// each function then owes that it keeps their number, which a slice keeps by itself.
 pub(crate) fn put(code: &mut [i32], p: usize, instr: Instr) -> usize
     requires room { 2 * (p + 1) ≤ length code.old }
     requires few { operand instr < 2 ^ 31 }

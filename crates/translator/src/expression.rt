@@ -63,6 +63,7 @@ fn emit_and(
 }
 
 // Puts the `or` of the expressions at two rows: where the first holds, the second is not evaluated.
+// An `or` puts other instructions in another order than an `and`: one function would be two bodies under an if.
 #[cycle(expressions)]
 fn emit_or(
     sheet: Sheet,

@@ -30,6 +30,7 @@ pub(crate) fn line_size(rows: &[Row], at: usize) -> usize
 }
 
 // How many instructions the bodies of a process take, an end behind each.
+// That the sum is small is asked of what is left each time, so it is no type's fact.
 pub(crate) fn size_states(sheet: Sheet, states: StateLines) -> usize
     requires small { states_size (states_on sheet states) ≤ 4096 }
     ensures { result ≡ states_size (states_on sheet.entry states) }

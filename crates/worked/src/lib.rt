@@ -4,6 +4,8 @@
 ghost use Rattle.worked.specs.Examples.{WorkedExamples};
 
 // Each worked example comes out as it should.
-pub fn worked_examples()
+pub fn worked_examples() -> u8
     ensures { WorkedExamples }
-{}
+{
+    0
+}
