@@ -33,6 +33,7 @@ impl From<ReadRefusal> for Refusal {
     }
 }
 
+// Number and line are told by methods and no From: they are the two things that a refusal's line tells, and line 0 stands for none, as it is printed.
 impl Refusal {
     // The number by which the refusal is known.
     pub fn number(self) -> u32

@@ -54,7 +54,7 @@ fn encode_set(control: Control) -> (i32, i32)
 }
 
 // The words of an instruction: its number and its operand.
-// A function and no From: an operand below 2^31 is asked, here and in the three above.
+// A function and no From: an operand below 2^31 is asked, here and in those two above that have operands.
 fn encode(instr: Instr) -> (i32, i32)
     requires { operand instr < 2 ^ 31 }
     ensures { result ≡ encoded instr }
