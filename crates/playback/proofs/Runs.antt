@@ -1,6 +1,7 @@
 -- What is printed of a run through rows, from its start on.
 use Rattle.std.proofs.Common.{◌≡◌, ℕ, ◌-◌, ◌≤◌, true, false, ◌&&◌, ltb, leb, List, [], ◌∷◌, ◌++◌, map, length, take, drop, replicate, ℤ, pos, Some, None, IfSome, MatchOption, IfOk, IsErr, Ok, Err, vec_items, codes, Option, Result, sym, refl, ap, ◌∙◌, subst, arith, w32, SFits, of_z, to_z}
 use mathlib.Core.List.{map-map}
+use native.Mathlib.Nat.{sub-zero}
 use lib.ListN.{length-replicate}
 use Rattle.std.specs.List.{AllByRecursion}
 use Rattle.std.proofs.lemmas.List.{append-nil, drop_all, take_all}
@@ -33,7 +34,7 @@ use Rattle.lists.specs.Read.{ListRead}
 use Rattle.playback.specs.Listing.{listing, printed_rows, row_pins}
 use Rattle.playback.specs.Players.{Begun, standing}
 use Rattle.playback.specs.declared.listing.Player.{Player}
-use Rattle.playback.specs.Replay.{CodeLine, Ran, Replayed, coded, in_limit, limit, long_run, milli_run, no_code, no_layout, no_rows, printed_for, run_lines, unplayed}
+use Rattle.playback.specs.Replay.{Answered, CodeLine, Ran, long_run, milli_run, no_code, no_layout, no_rows, printed_for, run_lines, unplayed}
 use Rattle.playback.specs.declared.replay.Unplayed.TheVariants.{NotMounted}
 use Rattle.rows.specs.Rows.{RowOf, RowsFound, WholeRows}
 use Rattle.rows.proofs.RowReads.{read_fit, read_whole}
@@ -61,6 +62,13 @@ module _ (code : List ℤ) (h : Head) (holds : Holds code h) where
   pub kind_is : (kind : CellKind) → Names (to_z w32 (of_z w32 h.kind)) (Ok kind) → h.kind ≡ number_of kind
   kind_is kind named = sym word_is ∙ named
 
+-- The first word of a code is the number of its kind.
+long_kind : (w : ℤ) → Within 1 2 w → of_z w32 w ≡ 1 → w ≡ pos 1
+long_kind w k is = k.1 ∙ ap pos (sym (ap (of_z w32) k.1) ∙ is)
+
+milli_kind : (w : ℤ) → Within 1 2 w → (of_z w32 w ≡ 1 → ⊥) → w ≡ pos 2
+milli_kind w k other = let not-one : k.0 ≡ 1 → ⊥ = λ e. other (ap (of_z w32) k.1 ∙ e) in k.1 ∙ ap pos (omega arith)
+
 -- A code that is not mounted is refused by 9.
 pub not_mounted : (code : List ℤ) (text : List ℕ) (e : MountRefusal) → Mounts code (Err e) → IfSome (printed_for (Err (NotMounted e))) (Ran code text)
 not_mounted code text NotFlatCode none = no_layout none
@@ -71,16 +79,14 @@ rows_unplayed code text h NotAList holds none = no_rows holds.layout (λ rows wh
 rows_unplayed code text h ListMemory holds none = tt
 
 -- A code line that is not read.
-pub code_unplayed : (input : List ℕ) (before after : List ℤ) (e : ListError) → length input ≤ limit → ListRead (codes "code") input before (Err e) after → IfSome (printed_for (Err (unplayed e))) (Replayed input)
-code_unplayed input before after NotAList within none = in_limit within _ (no_code none)
-code_unplayed input before after ListMemory within none = tt
+pub code_unplayed : (input : List ℕ) (before after : List ℤ) (e : ListError) → ListRead (codes "code") input before (Err e) after → IfSome (printed_for (Err (unplayed e))) (Answered input)
+code_unplayed input before after NotAList none = no_code none
+code_unplayed input before after ListMemory none = tt
 
--- The line of a code was read to where nothing was before, and what it gives is what the input gives.
-pub code_read : (input : List ℕ) (before code code₁ : List ℤ) (n : ℕ) (o : Option (List ℕ)) → length input ≤ limit → ListRead (codes "code") input before (Ok n) code → before ≡ [] → code₁ ≡ code → IfSome o (Ran code₁ (take (length input - n) (drop n input))) → IfSome o (Replayed input)
-code_read input before code code₁ n None within read empty e ran = tt
-code_read input before code code₁ n (Some out) within read empty e ran =
-    let line : CodeLine input code (take (length input - n) (drop n input)) = record { fit = read_fit (codes "code") input before code n read empty; print = read_whole (codes "code") input before code n read empty } in
-    in_limit within out (coded code₁ _ out (subst (λ c. CodeLine input c (take (length input - n) (drop n input))) (sym e) line) ran)
+-- The line of a code was read to where nothing was before.
+pub code_read : (input : List ℕ) (before code code₁ : List ℤ) (n : ℕ) → ListRead (codes "code") input before (Ok n) code → before ≡ [] → code₁ ≡ code → CodeLine input code₁ (take (length input - n) (drop n input))
+code_read input before code code₁ n read empty e =
+    subst (λ c. CodeLine input c (take (length input - n) (drop n input))) (sym e) (record { fit = read_fit (codes "code") input before code n read empty; print = read_whole (codes "code") input before code n read empty })
 
 -- What holds of what was played holds of what is printed.
 pub told_by : {X E : Type 0} (items : X → List ℕ) (P : List ℕ → Type 0) (o : Option (List ℕ)) (r : Result X E) → IfSome o P → MatchOption o (IsErr r) (λ bytes. IfOk r (λ x. items x ≡ bytes)) → IfOk r (λ x. P (items x))
@@ -92,6 +98,14 @@ told_by items P o (Err e) holds printed = tt
 pub ends_as : {X E : Type 0} (items : X → List ℕ) (r : Result X E) (a b : List ℕ) → IfOk r (λ x. items x ≡ a) → a ≡ b → IfOk r (λ x. items x ≡ b)
 ends_as items (Ok x) a b e f = e ∙ f
 ends_as items (Err e) a b h f = tt
+
+-- What was appended to nothing is all there is.
+pub to_nothing : (before new after : List ℕ) → after ≡ before ++ new → before ≡ [] → after ≡ new
+to_nothing before new after e empty = e ∙ ap (λ xs. xs ++ new) empty
+
+-- Zeros filled up from nothing.
+pub filled : {V : Type 0} (n len : ℕ) (xs : List V) (z z₁ : V) → xs ≡ [] → len ≡ 0 → z ≡ z₁ → take n xs ++ replicate (n - len) z ≡ replicate n z₁
+filled {V} n len xs z z₁ e f g = let none : take {A = V} n [] ≡ [] = take_all n [] (omega arith) in rw (e, f, g, none, sub-zero n)
 
 -- A row with a number for each input stands at the pins as it is.
 row_up : (width : ℕ) (row : List ℤ) → 1 ≤ width → length row ≡ width → next_row width row 0 ≡ up row

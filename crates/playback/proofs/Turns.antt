@@ -1,7 +1,7 @@
 -- One scan more of a listing, on a tape that was made for it.
-use Rattle.std.proofs.Common.{◌≡◌, ℕ, ◌+◌, ◌<◌, ◌≤◌, leb, List, ◌∷◌, ◌++◌, map, length, get_or, drop, replicate, ℤ, pos, Ok, Err, Result, sym, refl, ap, ◌∙◌, subst, append_assoc}
+use Rattle.std.proofs.Common.{◌≡◌, ℕ, ◌+◌, ◌<◌, ◌≤◌, leb, List, [], ◌∷◌, ◌++◌, map, length, get_or, drop, replicate, ℤ, pos, Ok, Err, Result, sym, refl, ap, ◌∙◌, subst, append_assoc}
 use lib.ListN.{length-replicate}
-use Rattle.std.proofs.lemmas.List.{drop_more}
+use Rattle.std.proofs.lemmas.List.{append-nil, drop_more}
 use Rattle.std.proofs.lemmas.Bool.{cond-true, le-leb}
 use Rattle.kinds.specs.Ops.{Ops}
 use Rattle.hosts.specs.Meaning.{Pins}
@@ -70,6 +70,14 @@ module _ {V : Type 0} (k : Ops V) (code : List ℤ) (work : ℕ) where
 -- So far this was listed; from scan n on, the readings that are left give the rest of the listing.
 pub record Listed {V : Type 0} (k : Ops V) (code : List ℤ) (work : ℕ) (all : List (Pins Spent)) (start : World V) (done : List ℕ) (n : ℕ) (left : List (Pins Spent)) (w : World V) : Type 0 where
   pub goes_on : done ++ listing k code work n left w ≡ listing k code work 1 all start
+
+-- Nothing is listed at the beginning, and all is where no reading is left.
+module _ {V : Type 0} {k : Ops V} {code : List ℤ} {work : ℕ} {all : List (Pins Spent)} {start : World V} where
+  pub listed_none : Listed k code work all start [] 1 all start
+  listed_none = record { goes_on = refl }
+
+  pub listed_all : {done : List ℕ} {n : ℕ} {left : List (Pins Spent)} {w : World V} → Listed k code work all start done n left w → left ≡ [] → done ≡ listing k code work 1 all start
+  listed_all {done} {n} {left} {w} l none = sym (append-nil done) ∙ ap (λ ps. done ++ listing k code work n ps w) (sym none) ∙ l.goes_on
 
 -- The row at the index i was scanned, where the code and the size of the working memory are as they were.
 module _ {V X : Type 0} {k : Ops V} {code : List ℤ} {work : ℕ} {all : List (Pins Spent)} {start : World V} {done : List ℕ} {n : ℕ} {cells : List V} {board : Board} {scans : ℕ}

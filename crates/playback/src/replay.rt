@@ -3,7 +3,7 @@ ghost use Rattle.std.specs.Prelude.{◌≡◌, true, map, IfOk, IfSome, IsErr, M
 ghost use Rattle.flat.specs.Layout.{Holds};
 ghost use Rattle.machine.specs.Scan.{same_word};
 ghost use Rattle.playback.specs.Listing.{printed_rows};
-ghost use Rattle.playback.specs.Replay.{Ran, Replayed, unplayed, printed_for};
+ghost use Rattle.playback.specs.Replay.{Answered, Ran, Replayed, unplayed, printed_for};
 ghost use Rattle.playback.specs.declared.replay.Unplayed.TheVariants.{NotMounted, NoMemory};
 
 use crate::listing::Player;
@@ -21,8 +21,7 @@ use std::alloc::{AllocError, Global};
 // The most bytes that an input may have.
 pub const LIMIT: usize = 1048576;
 
-// Why nothing is played: the input is too long, or no code line with whole rows behind it; or its code is not mounted; or there is no
-// memory.
+// Why nothing is played: the input is no code line with whole rows behind it; or its code is not mounted; or there is no memory.
 #[derive(Clone, Copy)]
 enum Unplayed {
     Unreadable,
@@ -84,18 +83,6 @@ fn run(heap: Global, code: &[i32], text: &[u8]) -> Result<Vec<u8>, Unplayed>
     }
 }
 
-// What an input of a code line and rows gives, or why it is not played.
-fn played(heap: Global, input: &[u8]) -> Result<Vec<u8>, Unplayed>
-    ensures { IfSome (printed_for result) (Replayed input.now) }
-{
-    if input.len() > LIMIT {
-        return Err(Unplayed::Unreadable);
-    }
-    let mut code = Vec::new(heap);
-    let n = read_list(input, b"code", &mut code)?;
-    run(heap, &code, &input[n..])
-}
-
 // What is printed of what was played: its lines, or the line of the refusal.
 fn printed(heap: Global, played: Result<Vec<u8>, Unplayed>) -> Result<Vec<u8>, AllocError>
     ensures { MatchOption (printed_for played) (IsErr result) (λ bytes. IfOk result (λ out. out.items ≡ bytes)) }
@@ -118,9 +105,23 @@ pub fn run_code(heap: Global, code: &[i32], text: &[u8]) -> Result<Vec<u8>, Allo
     printed(heap, run(heap, code, text))
 }
 
+// What is printed for an input within the limit.
+fn answer(heap: Global, input: &[u8]) -> Result<Vec<u8>, AllocError>
+    ensures { IfOk result (λ out. Answered input.now out.items) }
+{
+    let mut code = Vec::new(heap);
+    match read_list(input, b"code", &mut code) {
+        Ok(n) => run_code(heap, &code, &input[n..]),
+        Err(e) => printed(heap, Err(Unplayed::from(e))),
+    }
+}
+
 // What is printed for an input: the lines of the run of a stored code through rows, or the line of a refusal.
 pub fn replay(heap: Global, input: &[u8]) -> Result<Vec<u8>, AllocError>
     ensures { IfOk result (λ out. Replayed input.now out.items) }
 {
-    printed(heap, played(heap, input))
+    if input.len() > LIMIT {
+        return RefusalLine::UNREADABLE.into_bytes(heap);
+    }
+    answer(heap, input)
 }
