@@ -1,15 +1,18 @@
 // The lines that are printed of a run.
 #![tactic(auto)]
 
-ghost use Rattle.std.specs.Prelude.{◌≡◌, map, take, IfOk, Some};
-ghost use Rattle.numerals.specs.Print.{Appended};
-ghost use Rattle.lines.specs.Lines.{shown_line, scan_line, refusal_line};
+ghost use Rattle.std.specs.Prelude.{◌≡◌, ◌∷◌, ◌++◌, codes, decimal, map, take, IfOk, Some};
+ghost use Rattle.std.specs.List.{flat_map};
+ghost use Rattle.numerals.specs.Print.{Appended, bracketed};
+ghost use Rattle.lines.specs.Lines.{shown_row, shown_line, scan_line, refusal_line};
+ghost use Rattle.std.specs.Fmt.{WritesOnOk};
 
 use board::Board;
 use board::rows::Row;
 use flat::head::Head;
+use itoa::Buffer;
 use kinds::Kind;
-use numerals::{Bracketed, push_shown};
+use numerals::{Bracketed, push_shown, write_item, write_value};
 use std::alloc::{AllocError, Global};
 use std::fmt;
 use std::fmt::Display;
@@ -17,29 +20,82 @@ use std::fmt::Display;
 #[cfg(test)]
 mod tests;
 
-// What a scan's line shows: its number, the processes, the cells as raw numbers, the outputs and the steps.
+// What a scan's line shows: its number, the processes, the cells, the outputs and the steps.
 #[derive(Clone, Copy)]
-struct ScanLine<'a> {
+struct ScanLine<'a, K> {
     n: u64,
     rows: &'a [Row],
-    cells: &'a [i32],
+    cells: &'a [K],
     outputs: &'a [i32],
     steps: u32,
 }
 
-// The line of a scan.
-impl Display for ScanLine<'_> {
-    ghost output = { λ l. Some (shown_line l.n l.rows.now l.cells.now l.outputs.now l.steps) };
+// Writes a number behind a space.
+#[inline(always)]
+fn write_count<W: fmt::Write>(f: &mut fmt::Formatter<W>, n: u32) -> fmt::Result
+    ensures { WritesOnOk W.write_str_gives f.old result (32 ∷ decimal n) f.new }
+{
+    f.write_str(" ")?;
+    f.write_str(Buffer::new().format(n))
+}
+
+// Writes the cells' raw numbers in brackets, with one space between.
+fn write_cells<K: Kind, W: fmt::Write>(f: &mut fmt::Formatter<W>, cells: &[K]) -> fmt::Result
+    ensures { WritesOnOk W.write_str_gives f.old result (bracketed (map K.ops.writing cells.now)) f.new }
+{
+    let [first, rest @ ..] = cells else {
+        return f.write_str("()");
+    };
+    f.write_str("(")?;
+    write_value(f, first.write())?;
+    for cell in rest {
+        write_item(f, cell.write())?;
+    }
+    f.write_str(")")
+}
+
+// Writes a process's state and clock, in brackets, behind a space.
+fn write_row<W: fmt::Write>(f: &mut fmt::Formatter<W>, row: &Row) -> fmt::Result
+    ensures { WritesOnOk W.write_str_gives f.old result (shown_row row.now) f.new }
+{
+    f.write_str(" (")?;
+    f.write_str(Buffer::new().format(row.state))?;
+    write_count(f, row.clock)?;
+    f.write_str(")")
+}
+
+// Writes the state and clock of each process.
+fn write_rows<W: fmt::Write>(f: &mut fmt::Formatter<W>, rows: &[Row]) -> fmt::Result
+    ensures { WritesOnOk W.write_str_gives f.old result (flat_map shown_row rows.now) f.new }
+{
+    for row in rows {
+        write_row(f, row)?;
+    }
+    Ok(())
+}
+
+// Writes the outputs in brackets and the steps, each behind a space, and ends the line.
+fn write_end<W: fmt::Write>(f: &mut fmt::Formatter<W>, outputs: &[i32], steps: u32) -> fmt::Result
+    ensures { WritesOnOk W.write_str_gives f.old result (32 ∷ (bracketed outputs.now ++ 32 ∷ (decimal steps ++ codes ")\n"))) f.new }
+{
+    f.write_str(" ")?;
+    Bracketed(outputs).fmt(f)?;
+    write_count(f, steps)?;
+    f.write_str(")\n")
+}
+
+// The line of a scan: cells are written back as raw numbers.
+impl<K: Kind> Display for ScanLine<'_, K> {
+    ghost output = { λ l. Some (shown_line l.n l.rows.now (map K.ops.writing l.cells.now) l.outputs.now l.steps) };
 
     // Writes the number, each process's state and clock in brackets, the two lists and the steps.
     fn fmt<W: fmt::Write>(&self, f: &mut fmt::Formatter<W>) -> fmt::Result {
-        write!(f, "({}", self.n)?;
-        for row in self.rows {
-            write!(f, " ({} {})", row.state, row.clock)?;
-        }
-        let cells = Bracketed(self.cells);
-        let outputs = Bracketed(self.outputs);
-        writeln!(f, " {cells} {outputs} {})", self.steps)
+        f.write_str("(")?;
+        f.write_str(Buffer::new().format(self.n))?;
+        write_rows(f, self.rows)?;
+        f.write_str(" ")?;
+        write_cells(f, self.cells)?;
+        write_end(f, self.outputs, self.steps)
     }
 }
 
@@ -72,13 +128,6 @@ impl RefusalLine {
     }
 }
 
-// The cells written back as raw numbers.
-fn written<K: Kind>(heap: Global, cells: &[K]) -> Result<Vec<i32>, AllocError>
-    ensures { IfOk result (λ v. v.items ≡ map K.ops.writing cells.now) }
-{
-    cells.iter().map(|cell| cell.write()).collect(heap)
-}
-
 // The first `n` of some items, or all where there are fewer.
 fn front<T>(items: &[T], n: usize) -> &[T]
     ensures { result.now ≡ take n items.now }
@@ -86,9 +135,10 @@ fn front<T>(items: &[T], n: usize) -> &[T]
     items.get(..n).unwrap_or(items)
 }
 
-// Appends the line of scan `n`, which took so many steps.
+// Appends the line of scan `n`, which took so many steps. It takes what memory it needs where `out` does, and so none of
+// the heap.
 pub fn push_scan_line<K: Kind>(
-    heap: Global,
+    _heap: Global,
     out: &mut Vec<u8>,
     head: &Head,
     n: u64,
@@ -98,11 +148,10 @@ pub fn push_scan_line<K: Kind>(
 ) -> Result<(), AllocError>
     ensures { Appended out.old.items (scan_line K.ops head.now n cells.now board.now steps) result out.new.items }
 {
-    let raw = written(heap, front(cells, head.cells))?;
     let line = ScanLine {
         n,
         rows: front(&board.rows, head.processes),
-        cells: &raw,
+        cells: front(cells, head.cells),
         outputs: front(&board.levels, head.outputs),
         steps,
     };

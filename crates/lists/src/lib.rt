@@ -1,7 +1,7 @@
 // One line of numbers, read from bytes.
 #![tactic(auto)]
 
-ghost use Rattle.std.specs.Prelude.{◌≡◌, true, ◌∷◌, is_err, position, FitsSigned};
+ghost use Rattle.std.specs.Prelude.{◌≡◌, ◌^◌, ◌<◌, true, ◌∷◌, is_err, position, decimal, FitsSigned};
 ghost use Rattle.std.specs.Int.{w32};
 ghost use Rattle.numerals.specs.Print.{Kept};
 ghost use Rattle.lists.specs.Read.{ListRead};
@@ -9,7 +9,6 @@ ghost use Rattle.lists.specs.Steps.{After, Reads, ValuesRead, behind, ends, toke
 ghost use Rattle.lists.specs.declared.ListError.TheVariants.{NoMemory};
 ghost use Rattle.std.specs.Fmt.{signed_decimal};
 
-use itoa::Buffer;
 use std::alloc::{AllocError, AllocFailed};
 
 #[cfg(test)]
@@ -47,12 +46,33 @@ fn after<'a>(text: &'a [u8], front: &[u8]) -> Option<&'a [u8]>
     text.strip_prefix(front)
 }
 
-// The number of 32 bits that these bytes print: of all that std reads as a number, just the number's own print.
+// The number of 32 bits whose digits these are: one or more, and no zero in front of another.
+fn natural(digits: &[u8]) -> Option<u32>
+    ensures { Reads decimal (λ n. n < 2 ^ 32) digits.now result }
+{
+    if let [] | [b'0', _, ..] = digits {
+        return None;
+    }
+    let mut n: u32 = 0;
+    for d in digits {
+        let digit = char::from(*d).to_digit(10)?;
+        n = u32::try_from(u64::from(n) * 10 + u64::from(digit)).ok()?;
+    }
+    Some(n)
+}
+
+// The number of 32 bits that these bytes print: its digits, behind a minus sign if it is below 0.
 fn integer(bytes: &[u8]) -> Option<i32>
     ensures { Reads signed_decimal (FitsSigned w32) bytes.now result }
 {
-    let n: i32 = str::from_utf8(bytes).ok()?.parse().ok()?;
-    (Buffer::new().format(n).as_bytes() == bytes).then_some(n)
+    let Some(digits) = after(bytes, b"-") else {
+        let n = natural(bytes)?;
+        return i32::try_from(n).ok();
+    };
+    match natural(digits)? {
+        0 => None,
+        magnitude => 0i32.checked_sub_unsigned(magnitude),
+    }
 }
 
 // Whether a byte is a space or a closing bracket, which end a number.

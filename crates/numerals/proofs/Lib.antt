@@ -1,1 +1,3 @@
+pub mod Appends
 pub mod Numbers
+pub mod Written

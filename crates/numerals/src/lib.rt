@@ -2,8 +2,10 @@
 #![tactic(auto)]
 
 ghost use Rattle.numerals.specs.Print.{Appended, Kept, BaseTenDigits, bracketed};
-ghost use Rattle.std.specs.Prelude.{Some, IfSome};
+ghost use Rattle.std.specs.Fmt.{WritesOnOk, signed_decimal};
+ghost use Rattle.std.specs.Prelude.{◌∷◌, Some, IfSome};
 
+use itoa::Buffer;
 use std::alloc::AllocError;
 use std::fmt;
 use std::fmt::Display;
@@ -15,6 +17,23 @@ mod tests;
 #[derive(Clone, Copy)]
 pub struct Bracketed<'a>(pub &'a [i32]);
 
+// Writes a value's digits, a minus sign before those of a negative one.
+#[inline(always)]
+pub fn write_value<W: fmt::Write>(f: &mut fmt::Formatter<W>, value: i32) -> fmt::Result
+    ensures { WritesOnOk W.write_str_gives f.old result (signed_decimal value) f.new }
+{
+    f.write_str(Buffer::new().format(value))
+}
+
+// Writes a space and a value.
+#[inline(always)]
+pub fn write_item<W: fmt::Write>(f: &mut fmt::Formatter<W>, value: i32) -> fmt::Result
+    ensures { WritesOnOk W.write_str_gives f.old result (32 ∷ signed_decimal value) f.new }
+{
+    f.write_str(" ")?;
+    write_value(f, value)
+}
+
 // The values' print.
 impl Display for Bracketed<'_> {
     ghost output = { λ b. Some (bracketed b.0.now) };
@@ -22,15 +41,19 @@ impl Display for Bracketed<'_> {
     // Writes an opening bracket, the first value, each other value behind a space, and a closing bracket.
     fn fmt<W: fmt::Write>(&self, f: &mut fmt::Formatter<W>) -> fmt::Result {
         let [first, rest @ ..] = self.0 else {
-            return write!(f, "()");
+            return f.write_str("()");
         };
-        write!(f, "({first}")?;
+        f.write_str("(")?;
+        write_value(f, *first)?;
         for value in rest {
-            write!(f, " {value}")?;
+            write_item(f, *value)?;
         }
-        write!(f, ")")
+        f.write_str(")")
     }
 }
+
+// The room that is made for a print before its length is known; one that is longer makes its room larger as it is written.
+const ROOM: usize = 256;
 
 // Appends what a value prints; what stood there stays in front, whatever is answered. The digits that a number is printed by
 // are those of base ten.
@@ -39,6 +62,7 @@ pub fn push_shown<D: Display + Drop>(out: &mut Vec<u8>, shown: D) -> Result<(), 
     ensures kept { Kept out.old.items out.new.items }
     ensures appended { IfSome (D.output shown) (λ new. Appended out.old.items new result out.new.items) }
 {
-    let text = shown.to_string(*out.allocator())?;
+    let mut text = String::with_capacity(*out.allocator(), ROOM)?;
+    write!(text, "{shown}")?;
     out.extend_from_slice(text.as_bytes())
 }

@@ -1,55 +1,42 @@
--- The print of a number is text that is read as that number, and is the number's print again.
-use Rattle.std.proofs.Common.{◌≡◌, ℕ, Bool, true, false, List, ℤ, Ok, Result, is_ok, sym, refl, ap, ◌∙◌, subst, rules, w32, SFits}
-use Rattle.std.specs.Str.{IsUtf8}
+-- Digits alone are the print of a number from 0 on, and those behind a minus sign of one below 0.
+use Rattle.std.proofs.Common.{◌≡◌, ◌≢◌, ◌^◌, ◌<◌, ◌∷◌, List, ℕ, zero, suc, decimal, ℤ, pos, negsuc, rules, refl, ◌-ℤ◌, Some, None, Option, sym, ap, ◌∙◌, subst, arith, w32, SFits}
+use lib.Signed.{mag}
 use Rattle.std.specs.Fmt.{signed_decimal}
-use Rattle.std.specs.Str.Parse.{ParsesSigned}
-use Rattle.std.proofs.lemmas.Fmt.{IsAscii-signed, parse-signed_decimal}
-use Rattle.std.proofs.lemmas.Str.{IsUtf8-from_ascii}
-use Rattle.std.specs.Bool.{Decides, then_some}
-use Rattle.std.proofs.lemmas.Int.{to_z-of_z}
-use Rattle.std.proofs.lemmas.Result.{OkIff-at_ok}
-use Rattle.std.proofs.lemmas.Bool.Decides.{Decides-eqb}
-use Rattle.std.proofs.lemmas.Slice.Eq.{slice_eq-Decides}
+use Rattle.std.specs.Option.{SomeIff}
+use Rattle.std.proofs.lemmas.Fmt.{decimal_injective, signed_decimal_injective}
+use Rattle.numerals.proofs.Numbers.{none_below}
+use Rattle.std.proofs.lemmas.Int.{ints}
 use Rattle.lists.specs.Steps.{Reads}
 use Rattle.lists.proofs.Lines.{small}
 use Rattle.lists.proofs.integer.Goals as goal
 
--- The print of a number is text.
-print_is_text : (v : ℤ) → SFits w32 v → IsUtf8 (signed_decimal v)
-print_is_text v fit = IsUtf8-from_ascii _ (IsAscii-signed v (small v fit))
+-- The print of a number is read as the number, and as none where it is not one of 32 bits.
+reads : (bytes : List ℕ) (z : ℤ) (o : Option ℤ) → mag z < 2 ^ 63 → bytes ≡ signed_decimal z → SomeIff o (SFits w32 z) z → Reads signed_decimal (SFits w32) bytes o
+reads bytes z (Some v) least is some = (subst (SFits w32) (sym some.1) some.0, is ∙ ap signed_decimal (sym some.1))
+reads bytes z None least is none = λ v fit e. none (subst (SFits w32) (signed_decimal_injective v z (small v fit) least (sym e ∙ is)) fit)
 
--- It is read as the number.
-print_is_read : {E : Type 0} (v : ℤ) (bytes : List ℕ) (r : Result ℤ E) → SFits w32 v → bytes ≡ signed_decimal v → ParsesSigned w32 10 bytes r → r ≡ Ok v
-print_is_read v bytes r fit e parsed = parse-signed_decimal w32 v bytes r fit (small v fit) e parsed
+-- So is a minus sign with the digits behind it of a number other than 0, which is taken from 0.
+reads_below : (bytes digits : List ℕ) (n : ℕ) (o : Option ℤ) → n ≢ 0 → bytes ≡ 45 ∷ digits → n < 2 ^ 63 → digits ≡ decimal n → SomeIff o (SFits w32 (pos 0 -ℤ pos n)) (pos 0 -ℤ pos n) → Reads signed_decimal (SFits w32) bytes o
+reads_below bytes digits zero o some minus least is h = absurd (some refl)
+reads_below bytes digits (suc n) o some minus least is h =
+    let z : pos 0 -ℤ pos (suc n) ≡ negsuc n = search (rules, ints) in
+    reads bytes (negsuc n) o (omega (arith, least)) (minus ∙ ap (λ ds. 45 ∷ ds) is) (rw z at h)
 
--- What is read is a number of 32 bits.
-read_fits : {E : Type 0} (text : List ℕ) (r : Result ℤ E) (n : ℤ) → ParsesSigned w32 10 text r → r ≡ Ok n → SFits w32 n
-read_fits text r n parsed e = let p = OkIff-at_ok r _ _ n parsed e in subst (SFits w32) (sym p.1) p.0.1
+-- A minus sign and the print of 0 are the print of no number.
+no_zero : (bytes digits : List ℕ) → bytes ≡ 45 ∷ digits → digits ≡ decimal 0 → (v : ℤ) → SFits w32 v → bytes ≡ signed_decimal v → ⊥
+no_zero bytes digits minus is = none_below bytes digits minus (λ n some least e. omega (arith, decimal_injective 0 n (omega arith) (omega arith) (sym is ∙ e)))
 
--- What is read as a number and is the number's print is the only thing that prints it.
-read_again : {E : Type 0} (text bytes : List ℕ) (r : Result ℤ E) (n : ℤ) (same : Bool) → text ≡ bytes → ParsesSigned w32 10 text r → r ≡ Ok n → Decides same (signed_decimal n ≡ bytes) → Reads signed_decimal (SFits w32) bytes (then_some same n)
-read_again text bytes r n true is parsed e same = (read_fits text r n parsed e, sym (same.0 refl))
-read_again text bytes r n false is parsed e same =
-    λ v fit f.
-    let n-is : n ≡ v = (let both : Ok n ≡ r = sym e in let other : r ≡ Ok v = print_is_read v text r fit (is ∙ f) parsed in cc) in
-    absurd (let z : false ≡ true = same.1 (ap signed_decimal n-is ∙ sym f) in cc)
+pub returns-in_default : goal.returns-in_default
+returns-in_default c = reads _ (pos c.in_ok-n.n) _ (omega arith) c.in_ok-n.ensures.1 (search rules)
 
-pub returns-in_err-ok : goal.returns-in_err-ok
-returns-in_err-ok c = rw c.from_residual.ensures (λ v fit e. let text = print_is_text v fit in let not-ok = c.in_err-ok.ensures.variant in search rules)
+pub returns-in_err-magnitude : goal.returns-in_err-magnitude
+returns-in_err-magnitude c =
+    rw c.from_residual-in_err-magnitude.ensures
+    (none_below c.args.bytes.now c.in-Some.digits.now c.in-Some.ensures (λ n some good e. c.in_err-magnitude.ensures n (omega arith) e))
 
-pub returns-in_err-n : goal.returns-in_err-n
-returns-in_err-n c =
-    rw c.from_residual-in_err-n.ensures (λ v fit e.
-    let same : c.in_ok-ok.field-0.now ≡ c.args.bytes.now = search rules in
-    let read = print_is_read v c.in_ok-ok.field-0.now c.parse.result fit (same ∙ e) c.parse.ensures.value.0 in
-    let none = c.in_err-n.ensures.variant in
-    absurd (let z : false ≡ true = none ∙ ap is_ok read in cc))
+pub returns-in-0 : goal.returns-in-0
+returns-in-0 c = search (rules, no_zero)
 
-pub returns : goal.returns
-returns c =
-    let same : c.in_ok-ok.field-0.now ≡ c.args.bytes.now = search rules in
-    let read : c.parse.result ≡ Ok c.in_ok-n.n = search rules in
-    let n = to_z-of_z w32 c.in_ok-n.n (read_fits c.in_ok-ok.field-0.now c.parse.result c.in_ok-n.n c.parse.ensures.value.0 read) in
-    let text = c.as_bytes.ensures.value ∙ c.format.ensures.text ∙ ap signed_decimal n in
-    let decided = slice_eq-Decides Decides-eqb (signed_decimal c.in_ok-n.n) c.args.bytes.now c.eq.result (rw text at c.eq.ensures) in
-    rw (c.then_some.ensures, n) (read_again c.in_ok-ok.field-0.now c.args.bytes.now c.parse.result c.in_ok-n.n c.eq.result same c.parse.ensures.value.0 read decided)
+pub returns-in_default-2 : goal.returns-in_default-2
+returns-in_default-2 c =
+    reads_below _ _ c.in_ok-magnitude.magnitude _ (search rules) c.in-Some.ensures (omega (arith, c.in_ok-magnitude.ensures.0)) c.in_ok-magnitude.ensures.1 c.checked_sub_unsigned.ensures
