@@ -1,4 +1,4 @@
--- A word looked up in the table of house words: what the definition has for it.
+-- A word looked up in one table of all the house words: what the definition has for it.
 use Rattle.std.proofs.Common.{◌≡◌, ℕ, Bool, true, false, cond, List, [], ◌∷◌, ◌++◌, map, Some, Option, Bor, refl, ap, ◌∙◌}
 use Rattle.std.specs.List.{find}
 use Rattle.std.specs.Option.{option_map}

@@ -1,6 +1,6 @@
 // The house words: words that belong to the language and are no names.
 ghost use Rattle.std.specs.Prelude.{◌≡◌};
-ghost use Rattle.language.specs.House.{house};
+ghost use Rattle.language.specs.House.{line_word, expression_word, statement_word, house};
 
 use flat::instr::Binary;
 use flat::kind::CellKind;
@@ -62,56 +62,75 @@ pub enum House {
     KindName(CellKind),
 }
 
-// The 34 house words, and what each is there for.
-static WORDS: [(&[u8], House); 34] = [
-    (b"kind", House::Opens(Opener::Kind)),
-    (b"tact", House::Opens(Opener::Tact)),
-    (b"const", House::Opens(Opener::Const)),
-    (b"cell", House::Opens(Opener::Cell)),
-    (b"in", House::Opens(Opener::In)),
-    (b"out", House::Opens(Opener::Out)),
-    (b"proc", House::Opens(Opener::Proc)),
-    (b"state", House::Opens(Opener::State)),
-    (b"long", House::KindName(CellKind::Long)),
-    (b"milli", House::KindName(CellKind::Milli)),
-    (b"add", House::Expression(TermHead::Operate(Binary::Add))),
-    (b"sub", House::Expression(TermHead::Operate(Binary::Sub))),
-    (b"mul", House::Expression(TermHead::Operate(Binary::Mul))),
-    (b"div", House::Expression(TermHead::Operate(Binary::Div))),
-    (b"less", House::Expression(TermHead::Operate(Binary::Less))),
-    (b"same", House::Expression(TermHead::Operate(Binary::Same))),
-    (b"not", House::Expression(TermHead::Not)),
-    (b"and", House::Expression(TermHead::And)),
-    (b"or", House::Expression(TermHead::Or)),
-    (b"active", House::Expression(TermHead::Ask(Enquiry::Active))),
-    (
-        b"stopped",
-        House::Expression(TermHead::Ask(Enquiry::Stopped)),
-    ),
-    (b"failed", House::Expression(TermHead::Ask(Enquiry::Failed))),
-    (
-        b"passive",
-        House::Expression(TermHead::Ask(Enquiry::Passive)),
-    ),
-    (b"put", House::Statement(ActHead::Put)),
-    (b"if", House::Statement(ActHead::If)),
-    (b"do", House::Statement(ActHead::Do)),
-    (b"after", House::Statement(ActHead::After)),
-    (b"go", House::Statement(ActHead::Go)),
-    (b"next", House::Statement(ActHead::Next)),
-    (b"start", House::Statement(ActHead::Start)),
-    (b"restart", House::Statement(ActHead::Restart)),
-    (b"stop", House::Statement(ActHead::Stop)),
-    (b"fail", House::Statement(ActHead::Fail)),
-    (b"reset", House::Statement(ActHead::Reset)),
-];
+// What a word is there for in front of a line's items: to begin a line, or to name a kind of cell.
+fn line_word(w: &[u8]) -> Option<House>
+    ensures { result ≡ line_word w.now }
+{
+    match w {
+        b"kind" => Some(House::Opens(Opener::Kind)),
+        b"tact" => Some(House::Opens(Opener::Tact)),
+        b"const" => Some(House::Opens(Opener::Const)),
+        b"cell" => Some(House::Opens(Opener::Cell)),
+        b"in" => Some(House::Opens(Opener::In)),
+        b"out" => Some(House::Opens(Opener::Out)),
+        b"proc" => Some(House::Opens(Opener::Proc)),
+        b"state" => Some(House::Opens(Opener::State)),
+        b"long" => Some(House::KindName(CellKind::Long)),
+        b"milli" => Some(House::KindName(CellKind::Milli)),
+        _ => None,
+    }
+}
+
+// The expression that a word begins.
+fn expression_word(w: &[u8]) -> Option<House>
+    ensures { result ≡ expression_word w.now }
+{
+    let head = match w {
+        b"add" => TermHead::Operate(Binary::Add),
+        b"sub" => TermHead::Operate(Binary::Sub),
+        b"mul" => TermHead::Operate(Binary::Mul),
+        b"div" => TermHead::Operate(Binary::Div),
+        b"less" => TermHead::Operate(Binary::Less),
+        b"same" => TermHead::Operate(Binary::Same),
+        b"not" => TermHead::Not,
+        b"and" => TermHead::And,
+        b"or" => TermHead::Or,
+        b"active" => TermHead::Ask(Enquiry::Active),
+        b"stopped" => TermHead::Ask(Enquiry::Stopped),
+        b"failed" => TermHead::Ask(Enquiry::Failed),
+        b"passive" => TermHead::Ask(Enquiry::Passive),
+        _ => return None,
+    };
+    Some(House::Expression(head))
+}
+
+// The statement that a word begins.
+fn statement_word(w: &[u8]) -> Option<House>
+    ensures { result ≡ statement_word w.now }
+{
+    let head = match w {
+        b"put" => ActHead::Put,
+        b"if" => ActHead::If,
+        b"do" => ActHead::Do,
+        b"after" => ActHead::After,
+        b"go" => ActHead::Go,
+        b"next" => ActHead::Next,
+        b"start" => ActHead::Start,
+        b"restart" => ActHead::Restart,
+        b"stop" => ActHead::Stop,
+        b"fail" => ActHead::Fail,
+        b"reset" => ActHead::Reset,
+        _ => return None,
+    };
+    Some(House::Statement(head))
+}
 
 // What a word is there for, if it is a house word.
+#[tactic(auto, unfolding(crate::specs::House::house))]
 pub fn house_word(w: &[u8]) -> Option<House>
     ensures { result ≡ house w.now }
 {
-    WORDS
-        .iter()
-        .find(|(word, _)| *word == w)
-        .map(|(_, house)| *house)
+    line_word(w)
+        .or_else(|| expression_word(w))
+        .or_else(|| statement_word(w))
 }
