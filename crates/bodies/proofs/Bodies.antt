@@ -34,7 +34,7 @@ module _ {V : Type 0} (size cells : ℕ) where
   short_cond false x m l h = (h, l)
 
 module _ {V : Type 0} (k : Ops V) (seen : List ℤ) (p : ℕ) where
-  short_step : (at : ℕ) (rest : List ℤ) (i : Instr) (m : Machine V) → Inside at rest i → Short (length rest) (length m.cells) (step k seen p at i m)
+  pub short_step : (at : ℕ) (rest : List ℤ) (i : Instr) (m : Machine V) → Inside at rest i → Short (length rest) (length m.cells) (step k seen p at i m)
   short_step at rest End m h = refl
   short_step at rest (Push s) m h = short_push (length rest) (length m.cells) _ m refl
   short_step at rest (Convert u) m h = short_top (length rest) (length m.cells) m.stack m _ refl (λ a m₁ l. short_push (length rest) (length m.cells) _ m₁ l)

@@ -2,3 +2,4 @@ pub mod Stacks
 pub mod Bodies
 pub mod Sweeps
 pub mod Runnables
+pub mod Advances

@@ -39,7 +39,7 @@ placed_ok q s n (Err f) e = cc
 
 module _ {V : Type 0} (k : Ops V) (seen code : List ℤ) where
   -- the turn of process q, of n
-  sweep_turn :
+  pub sweep_turn :
       (n q steps : ℕ) (m : Machine V)
       → q < n
       → sweep k seen code (n - q) q steps m ≡ onward (visit k seen code q m) q (state m.board q) (λ j m₁. sweep k seen code (n - (q + 1)) (q + 1) (steps + j) m₁)
@@ -56,7 +56,7 @@ module _ {V : Type 0} (k : Ops V) (seen code : List ℤ) where
       ap (λ (r : Ran V). onward r q (state m.board q) (λ i m₂. sweep k seen code (n - (q + 1)) (q + 1) (steps + i) m₂)) e
       ∙ sym (sweep_turn n q steps m h)
 
-  sweep_stop :
+  pub sweep_stop :
       (n q steps s : ℕ) (f : Fault) (m m₁ : Machine V)
       → q < n
       → s ≡ state m.board q

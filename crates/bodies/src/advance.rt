@@ -30,13 +30,13 @@ pub fn advance<K: Kind>(
     let steps = scan.sweep(code, seen)?;
     let Running {
         cells: after,
-        board: mut next,
+        board: next,
         puts,
         ..
     } = scan;
     cells[..n].copy_from_slice(after);
-    next.settle(&puts);
-    next.tick(count_at(code, PROCESSES));
     *board = next;
+    board.settle(&puts);
+    board.tick(count_at(code, PROCESSES));
     Ok((steps, puts))
 }

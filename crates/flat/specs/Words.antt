@@ -1,6 +1,11 @@
 -- The words of a flat code by their places.
-use Rattle.std.specs.Prelude.{ℕ, ◌+◌, ◌*◌, List, drop, ℤ, pos, negsuc, slice_index_or}
+use Rattle.std.specs.Prelude.{ℕ, ◌+◌, ◌*◌, List, drop, ℤ, pos, negsuc, slice_index_or, Option, Some, None}
 use Rattle.flat.specs.declared.head.Head.{Head}
+
+-- The number that a word is, unless it is negative.
+abbrev pub number : ℤ → Option ℕ
+number (pos n) = Some n
+number (negsuc n) = None
 
 -- A word as a count or a place: a negative word, which no layout has there, counts as 0.
 abbrev pub natural : ℤ → ℕ

@@ -9,7 +9,7 @@ use crate::kind::CellKind;
 use crate::operand::{instructions_fit, is_under};
 use crate::words::{
     CELLS, INPUTS, INSTRUCTIONS, KIND, OUTPUTS, PROCESSES, TACT, count_at, entry_place,
-    instruction_place, instructions_from, process_place, word_at,
+    instruction_place, instructions_from, number, process_place, word_at,
 };
 
 // A code that is not of the layout.
@@ -38,7 +38,7 @@ const MAX_INSTRUCTIONS: usize = 4096;
 fn is_within(low: usize, high: usize, x: i32) -> bool
     ensures { result ≡ within low high x }
 {
-    usize::try_from(x).is_ok_and(|n| (low..=high).contains(&n))
+    number(x).is_some_and(|n| (low..=high).contains(&n))
 }
 
 // Whether the kind is known and the tact within its limits.

@@ -3,19 +3,20 @@ ghost use Rattle.std.specs.Prelude.{◌≡◌};
 ghost use Rattle.flat.specs.Tests.{under, ahead, operand_fits, instruction_fits, instructions_fit};
 
 use crate::head::Head;
+use crate::words::number;
 
 // Whether a word is a number below a limit.
 pub(crate) fn is_under(limit: usize, x: i32) -> bool
     ensures { result ≡ under limit x }
 {
-    usize::try_from(x).is_ok_and(|n| n < limit)
+    number(x).is_some_and(|n| n < limit)
 }
 
 // Whether a word is an instruction behind instruction `i`, of `total`.
 fn is_ahead(i: usize, total: usize, x: i32) -> bool
     ensures { result ≡ ahead i total x }
 {
-    usize::try_from(x).is_ok_and(|n| i < n && n < total)
+    number(x).is_some_and(|n| i < n && n < total)
 }
 
 // Whether the operand `x` of instruction `i`, whose number is `o`, fits.
@@ -40,7 +41,7 @@ fn operand_fits(head: &Head, i: usize, o: usize, x: i32) -> bool
 fn instruction_fits(head: &Head, i: usize, op: i32, x: i32) -> bool
     ensures { result ≡ instruction_fits head.now i op x }
 {
-    let Ok(o) = usize::try_from(op) else {
+    let Some(o) = number(op) else {
         return false;
     };
     operand_fits(head, i, o, x)

@@ -1,6 +1,6 @@
 // The words of a flat code by their places.
 ghost use Rattle.std.specs.Prelude.{◌≡◌, ◌+◌, ◌*◌, ◌<◌, ◌≤◌, length};
-ghost use Rattle.flat.specs.Words.{natural, at, word, body};
+ghost use Rattle.flat.specs.Words.{number, natural, at, word, body};
 
 // The place of the kind of cell.
 pub const KIND: usize = 0;
@@ -32,11 +32,18 @@ const PROCESS_WORDS: usize = 17;
 // The words of an instruction: its number and its operand.
 const INSTRUCTION_WORDS: usize = 2;
 
+// The number that a word is, unless it is negative. By a cast: the library's `try_from` parts sign and size, which costs more.
+pub(crate) fn number(x: i32) -> Option<usize>
+    ensures { result ≡ number x }
+{
+    if x < 0 { None } else { Some(x as usize) }
+}
+
 // A word as a count or a place.
 pub fn as_count(x: i32) -> usize
     ensures { result ≡ natural x }
 {
-    usize::try_from(x).unwrap_or(0)
+    number(x).unwrap_or(0)
 }
 
 // The word at a place, and 0 beyond the end.

@@ -1,11 +1,11 @@
 -- Arrays made by the calls of one closure.
-use Rattle.std.proofs.Common.{◌≡◌, ℕ, zero, suc, ◌+◌, ◌<◌, ◌≤◌, List, length, map, get_or, inl, inr, ◌∙◌, sym, subst, ap, arith}
+use Rattle.std.proofs.Common.{◌≡◌, ℕ, zero, suc, ◌+◌, ◌<◌, ◌≤◌, List, length, map, get_or, inl, inr, ◌∙◌, sym, subst, arith}
 use denote.Param.Members.{Mut, Called}
 use Rattle.std.proofs.lemmas.Bool.{cases_order}
-use Rattle.std.proofs.lemmas.List.{same_lists, get_or-map, length-map}
+use Rattle.std.proofs.lemmas.List.{get_or-map, length-map}
 use Rattle.std.proofs.lemmas.List.FromFn.{fill_by_all}
 use Rattle.std.specs.List.{range_with_len}
-use Rattle.std.specs.Array.{IsFromFnResultFrom, IsFromFnResult, MapsFrom, IsMapOf}
+use Rattle.std.specs.Array.{IsFromFnResultFrom, IsFromFnResult}
 
 -- Each call answers f of its index, and what holds of the closure stays: the elements are f of their places.
 module _ {F B : Type 0} (g : Mut F (ℕ × Unit {0}) B) (Same : F → Type 0) (f : ℕ → B) (calls : (p : F) (i : ℕ) (y : B) (q : F) → Same p → Called g p (i, tt) y q → (y ≡ f i) × Same q) where
@@ -22,19 +22,9 @@ module _ {F B : Type 0} (g : Mut F (ℕ × Unit {0}) B) (Same : F → Type 0) (f
   pub made_by : (p : F) (ys : List B) (n : ℕ) (d : B) → Same p → IsFromFnResult g p ys n → ys ≡ map f (range_with_len 0 n)
   made_by p ys n d s made = fill_by_all f ys n d made.long (λ k h. made_at ys d n 0 p s made.each k (omega arith) (omega arith))
 
--- Each call answers f of an element, and what holds of the closure stays: the elements are f of those.
-module _ {F A B : Type 0} (g : Mut F (A × Unit {0}) B) (Same : F → Type 0) (f : A → B) (calls : (p : F) (x : A) (y : B) (q : F) → Same p → Called g p (x, tt) y q → (y ≡ f x) × Same q) where
-  mapped_at : (xs : List A) (ys : List B) (d : A) (e : B) (n i : ℕ) (p : F) → Same p → MapsFrom g p xs ys i n → (k : ℕ) → i ≤ k → k < i + n → get_or ys k e ≡ f (get_or xs k d)
-  mapped_at xs ys d e zero i p s m k from below = absurd (omega arith)
-  mapped_at xs ys d e (suc n) i p s (q, x, y, at, to, call, rest) k from below =
-      let one = calls p x y q s call in
-      elim (cases_order i k) [
-        | inl is ↦ subst (λ j. get_or ys j e ≡ f (get_or xs j d)) is (to.1 e ∙ one.0 ∙ ap f (sym (at.1 d)))
-        | inr (inl above) ↦ mapped_at xs ys d e n (i + 1) q one.1 rest k (omega arith) (omega arith)
-        | inr (inr under) ↦ absurd (omega arith)
-      ]
-
-  pub mapped_by : (p : F) (xs : List A) (ys : List B) (n : ℕ) → A → length xs ≡ n → Same p → IsMapOf g p xs ys n → ys ≡ map f xs
-  mapped_by p xs ys n d long s made =
-      same_lists ys (map f xs) (made.long ∙ sym (length-map xs f ∙ long))
-      (λ k e h. let below : k < n = subst (λ m. k < m) made.long h in mapped_at xs ys d e n 0 p s made.each k (omega arith) (omega arith) ∙ sym (get_or-map f xs k d e (omega arith)))
+-- Each call answers f of the element of xs at its index, and what holds of the closure stays: the elements are f of those.
+module _ {F A B : Type 0} (g : Mut F (ℕ × Unit {0}) B) (Same : F → Type 0) (f : A → B) (xs : List A) (d : A) (calls : (p : F) (i : ℕ) (y : B) (q : F) → Same p → Called g p (i, tt) y q → (y ≡ f (get_or xs i d)) × Same q) where
+  pub mapped_by : (p : F) (ys : List B) (n : ℕ) (e : B) → length xs ≡ n → Same p → IsFromFnResult g p ys n → ys ≡ map f xs
+  mapped_by p ys n e long s made =
+      made_by g Same (λ i. f (get_or xs i d)) calls p ys n e s made
+      ∙ sym (fill_by_all _ (map f xs) n e (length-map xs f ∙ long) (λ k h. get_or-map f xs k d e (omega arith)))

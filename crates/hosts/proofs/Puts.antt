@@ -1,5 +1,5 @@
 -- One line more of the outputs that are put or cleared.
-use Rattle.std.proofs.Common.{◌≡◌, ℕ, zero, suc, ◌+◌, ◌<◌, List, [], ◌∷◌, length, get_or, take, set, ℤ, pos, Some, None, Option, refl, ap, ◌∙◌, add-one, arith}
+use Rattle.std.proofs.Common.{◌≡◌, ℕ, zero, suc, ◌+◌, ◌<◌, ◌≤◌, List, [], ◌∷◌, ◌++◌, length, get_or, take, drop, set, replicate, ℤ, pos, Some, None, Option, refl, ap, ◌∙◌, add-one, arith}
 use Rattle.hosts.specs.Levels.{settled, cleared}
 
 -- The held outputs after line i took its value, if it has one.
@@ -41,3 +41,9 @@ clears (suc i) (x ∷ held) = ap (λ (r : List ℤ). pos 0 ∷ r) (clears i held
 -- The same at i + 1.
 pub cleared_more : (i : ℕ) (held : List ℤ) → cleared (i + 1) held ≡ set (cleared i held) i (pos 0)
 cleared_more i held = rw add-one (clears i held)
+
+-- Where there are n lines, clearing them is n zeros and then the rest.
+pub cleared_zeros : (n : ℕ) (held : List ℤ) → n ≤ length held → cleared n held ≡ replicate n (pos 0) ++ drop n held
+cleared_zeros zero held h = refl
+cleared_zeros (suc n) [] h = absurd (omega arith)
+cleared_zeros (suc n) (x ∷ held) h = ap (λ (r : List ℤ). pos 0 ∷ r) (cleared_zeros n held (omega arith))

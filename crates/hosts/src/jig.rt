@@ -4,6 +4,7 @@ ghost use Rattle.hosts.specs.Meaning.{Sampled};
 ghost use Rattle.hosts.specs.JigWires.{wired, jig_means, new_jig, lid_open, lid_shut, Latched, driven};
 
 use crate::{Host, lines};
+use std::array;
 
 // The fault of a jig whose lid is open.
 #[derive(Clone, Copy, PartialEq, Eq, Debug)]
@@ -45,12 +46,11 @@ impl Jig {
         self.open = false;
     }
 
-    // What the wires bring to the inputs.
+    // What the wires bring to the inputs. By index: an array's `map` first moves each element into a slot of its own, which costs more.
     fn pins(&self) -> [i32; 32]
         ensures { result ≡ wired self.now.held self.now.wiring }
     {
-        self.wiring
-            .map(|output| lines::level(&self.held, usize::from(output)))
+        array::from_fn(|i| lines::level(&self.held, usize::from(self.wiring[i])))
     }
 }
 

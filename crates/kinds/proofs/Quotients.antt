@@ -1,5 +1,5 @@
 -- A quotient of 32 bits, wrapped.
-use Rattle.std.proofs.Common.{◌≡◌, suc, ◌^◌, ◌≤◌, ℤ, pos, negsuc, nat_abs, sym, ap, ◌∙◌, mod-eq_of_lt, div-le_self, arith, w32, SFits, to_z, of_z}
+use Rattle.std.proofs.Common.{◌≡◌, ℕ, zero, suc, ◌/◌, ◌^◌, ◌≤◌, ℤ, pos, negsuc, neg_ℤ, nat_abs, refl, sym, ap, ◌∙◌, mod-eq_of_lt, div-le_self, arith, w32, SFits, to_z, of_z}
 use lib.Signed.{quot_z}
 use Rattle.std.specs.Int.{int_wrap}
 use Rattle.std.proofs.lemmas.Int.{to_z-of_z, int_wrap_fits, ints}
@@ -12,12 +12,21 @@ small_wrapped (negsuc n) h =
     let f : SFits w32 (negsuc n) = omega (arith, ints) in
     to_z-of_z w32 (negsuc n) f ∙ sym (int_wrap_fits w32 (negsuc n) f)
 
+-- a minus changes no size
+size_negated : (n : ℕ) → nat_abs (neg_ℤ (pos n)) ≡ n
+size_negated zero = refl
+size_negated (suc n) = refl
+
+-- the size of a quotient is the quotient of the sizes
+pub size_quotient : (a b : ℤ) → nat_abs (quot_z a b) ≡ nat_abs a / nat_abs b
+size_quotient (pos a) (pos b) = refl
+size_quotient (pos a) (negsuc b) = size_negated (a / suc b)
+size_quotient (negsuc a) (pos b) = size_negated (suc a / b)
+size_quotient (negsuc a) (negsuc b) = refl
+
 -- a quotient is no larger than what is divided
 quotient_small : (a b : ℤ) → nat_abs (quot_z a b) ≤ nat_abs a
-quotient_small (pos a) (pos b) = div-le_self a b
-quotient_small (pos a) (negsuc b) = omega (arith, ints, div-le_self a (suc b))
-quotient_small (negsuc a) (pos b) = omega (arith, ints, div-le_self (suc a) b)
-quotient_small (negsuc a) (negsuc b) = div-le_self (suc a) (suc b)
+quotient_small a b = rw size_quotient (div-le_self (nat_abs a) (nat_abs b))
 
 -- a quotient is read back from its bits as it wraps
 pub quotient_wrapped : (a b : ℤ) → SFits w32 a → to_z w32 (of_z w32 (quot_z a b)) ≡ int_wrap w32 (quot_z a b)
