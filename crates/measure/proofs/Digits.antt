@@ -10,7 +10,7 @@ grows n [] = omega arith
 grows n (d ∷ ds) = omega (arith, grows (10 * n + (d - 48)) ds)
 
 -- Past the limit it is no matter which number it is.
-digits_limited : (m n : ℕ) (ds : List ℕ) → min (digits (min n m) ds) m ≡ min (digits n ds) m
+pub digits_limited : (m n : ℕ) (ds : List ℕ) → min (digits (min n m) ds) m ≡ min (digits n ds) m
 digits_limited m n ds =
     ⊎_elim
     (λ h. ap (λ k. min (digits k ds) m) (omega arith))

@@ -1,5 +1,5 @@
 -- Where lines stand on a sheet: the lines up to a spot, forwards and backwards, and the states right before it.
-use Rattle.std.proofs.Common.{◌≡◌, ℕ, zero, suc, ◌+◌, Bool, true, false, cond, List, [], ◌∷◌, map, ◌++◌, reverse, length, sym, refl, ap, ◌∙◌, suc-add, zero-add, add-one, arith}
+use Rattle.std.proofs.Common.{◌≡◌, ℕ, zero, suc, ◌+◌, ◌-◌, ◌<◌, Bool, true, false, cond, List, [], ◌∷◌, map, ◌++◌, reverse, length, sym, refl, ap, ◌∙◌, suc-add, zero-add, add-one, arith}
 use mathlib.Core.List.{reverse-cons}
 use Rattle.text.specs.Sheet.{next_row}
 use Rattle.text.specs.declared.items.Items.{Items}
@@ -42,6 +42,16 @@ leading_lines t rows p (suc k) =
     elim (t (line_at rows p))
     as (λ b. cond b (line_at rows p ∷ leading t (lines_at rows (next_row rows p) k)) [] ≡ lines_at rows p (length (cond b (line_at rows p ∷ leading t (lines_at rows (next_row rows p) k)) [])))
     [ true ↦ ap (λ ls. line_at rows p ∷ ls) (leading_lines t rows (next_row rows p) k) | false ↦ refl ]
+
+-- Of m lines i are passed: how many of the others lead by a test.
+pub leading_more : (t : Line → Bool) (rows : List Row) (at m i : ℕ) → i < m
+    → length (leading t (lines_at rows at (m - i))) ≡ cond (t (line_at rows at)) (suc (length (leading t (lines_at rows (next_row rows at) (m - (i + 1)))))) 0
+leading_more t rows at m i h =
+    let e : m - i ≡ suc (m - (i + 1)) = omega arith in
+    ap (λ k. length (leading t (lines_at rows at k))) e
+    ∙ elim (t (line_at rows at))
+    as (λ b. length (cond b (line_at rows at ∷ leading t (lines_at rows (next_row rows at) (m - (i + 1)))) []) ≡ cond b (suc (length (leading t (lines_at rows (next_row rows at) (m - (i + 1)))))) 0)
+    [ true ↦ refl | false ↦ refl ]
 
 -- The leading ones of what f reads.
 leading_map : {A : Type 0} (t : A → Bool) (f : ℕ → A) (ats : List ℕ) → leading t (map f ats) ≡ map f (leading (λ at. t (f at)) ats)

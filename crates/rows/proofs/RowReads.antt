@@ -1,9 +1,9 @@
 -- Rows read one after another.
-use Rattle.std.proofs.Common.{◌≡◌, ℕ, ◌-◌, false, eqb, List, [], ◌∷◌, ◌++◌, map, length, take, drop, ℤ, Ok, Err, codes, sym, ap, ◌∙◌, subst, append_assoc, arith, w32, SFits}
+use Rattle.std.proofs.Common.{◌≡◌, ℕ, ◌-◌, ◌<◌, ◌≤◌, true, false, eqb, List, [], ◌∷◌, ◌++◌, map, length, take, drop, ℤ, Ok, Err, codes, sym, refl, ap, ◌∙◌, subst, append_assoc, arith, length-append, w32, SFits}
 use Rattle.std.specs.List.{AllByRecursion}
 use Rattle.std.proofs.ByRecursion.{All-push}
-use Rattle.std.proofs.lemmas.List.{flat_map_more, map_push, take-append-drop, take_rest}
-use Rattle.std.proofs.lemmas.Bool.{eqb-false}
+use Rattle.std.proofs.lemmas.List.{append-nil, flat_map_more, map_push, nil_from_length, take-append-drop, take_rest}
+use Rattle.std.proofs.lemmas.Bool.{eqb-false, eqb-true}
 use Rattle.numerals.specs.Print.{shown_list}
 use Rattle.lists.specs.declared.ListError.{ListError}
 use Rattle.lists.specs.declared.ListError.TheVariants.{NotAList, NoMemory}
@@ -43,6 +43,9 @@ pub record PassedRows (width : ℕ) (text left : List ℕ) (rows : List (List �
   pub front : text ≡ shown_rows rows ++ left
   pub decides : NoRows width left → NoRows width text
 
+pub passed_none : (width : ℕ) (text : List ℕ) → PassedRows width text text []
+passed_none width text = record { each = tt; front = refl; decides = λ none. none }
+
 -- Where a row comes first, what follows it decides.
 row_decides : (width : ℕ) (left rest : List ℕ) (row : List ℤ) → RowOf width row → left ≡ shown_row_line row ++ rest → NoRows width rest → NoRows width left
 row_decides width left rest row of_width e none [] each f = absurd (let same = sym e ∙ f in let z : ◌≡◌ {A = ℕ} 0 1 = cc in omega arith)
@@ -58,8 +61,20 @@ passed_more items width text left rest rows more row p found pushed =
       decides = λ none. p.decides (row_decides width left rest (items row) found.0 found.1 none);
     }
 
+-- A line of a row has bytes.
+pub row_shorter : (left rest : List ℕ) (row : List ℤ) → left ≡ shown_row_line row ++ rest → length rest < length left
+row_shorter left rest row e = omega (arith, ap length e, length-append (shown_row_line row) rest)
+
+-- All rows were read.
+pub passed_all : (width : ℕ) (text left : List ℕ) (rows : List (List ℤ)) → 1 ≤ width → PassedRows width text left rows → true ≡ eqb (length left) 0 → WholeRows width text rows
+passed_all width text left rows some p none = record {
+  some = some;
+  each = p.each;
+  print = p.front ∙ ap (λ x. shown_rows rows ++ x) (nil_from_length left (eqb-true (length left) 0 (sym none))) ∙ append-nil (shown_rows rows);
+}
+
 -- Something is left that begins with no row.
-passed_no_row : (width : ℕ) (text left : List ℕ) (rows : List (List ℤ)) → PassedRows width text left rows → false ≡ eqb (length left) 0 → ((row : List ℤ) (rest : List ℕ) → RowOf width row → left ≡ shown_row_line row ++ rest → ⊥) → (all : List (List ℤ)) → WholeRows width text all → ⊥
+pub passed_no_row : (width : ℕ) (text left : List ℕ) (rows : List (List ℤ)) → PassedRows width text left rows → false ≡ eqb (length left) 0 → ((row : List ℤ) (rest : List ℕ) → RowOf width row → left ≡ shown_row_line row ++ rest → ⊥) → (all : List (List ℤ)) → WholeRows width text all → ⊥
 passed_no_row width text left rows p some none all whole = p.decides no_left all whole.each whole.print where
   no_left : NoRows width left
   no_left [] each e = eqb-false (length left) 0 (sym some) (ap length e)

@@ -53,7 +53,7 @@ form_at_rows left d rows at k n l e = form_walked d rows at k n e ∙ ap (λ x. 
 pub word_at_row : (left d : ℕ) (rows : List Row) (at : ℕ) (w : Bor (List ℕ)) → left ≡ suc d → WordRow w ≡ row_at rows at → Some (Word (house w.now)) ≡ sort_in left rows at
 word_at_row left d rows at w l e = ap (λ x. sort_of (item (shape (items_at (form_at d rows) rows (at + 1)) x))) e ∙ ap (λ x. sort_in x rows at) (sym l)
 
-line_told : (o : Option Line) → and_then (changed line_sort o) as_line ≡ changed sort o
+pub line_told : (o : Option Line) → and_then (changed line_sort o) as_line ≡ changed sort o
 line_told (Some l) = refl
 line_told None = refl
 

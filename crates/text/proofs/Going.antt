@@ -1,17 +1,19 @@
 -- The reader and the sheet together, item by item.
-use Rattle.std.proofs.Common.{◌≡◌, ℕ, suc, ◌+◌, ◌-◌, ◌<◌, ◌≤◌, List, [], ◌∷◌, length, take, set, Ok, sym, refl, ap, ◌∙◌, subst, arith}
+use Rattle.std.proofs.Common.{◌≡◌, ℕ, suc, ◌+◌, ◌-◌, ◌<◌, ◌≤◌, leb, List, [], ◌∷◌, length, take, set, Ok, Err, sym, refl, ap, ◌∙◌, subst, arith}
 use mathlib.Core.Path.{subst₃}
 use Rattle.std.proofs.lemmas.List.{length-take-le}
+use Rattle.std.proofs.lemmas.Bool.{cond-true, cond-false, lt-leb, le-leb}
 use Rattle.text.specs.Form.{Form, word, number, form, pack}
 use Rattle.text.specs.Tokens.{Tok, left, right, name, numeral, Toks, tok, end, toks, spot, line}
 use Rattle.text.specs.Reading.{Read, forms, parse, added, lined, read_text}
 use Rattle.text.specs.Machine.{tok_of}
 use Rattle.text.specs.Sheet.{rows_of, rows_in, forms_at}
-use Rattle.text.specs.Page.{Holds}
+use Rattle.text.specs.Page.{laid_out, Holds}
 use Rattle.text.specs.Filling.{most_items, weight, Adds, Puts}
 use Rattle.text.specs.declared.reader.Item.{Item}
 use Rattle.text.specs.declared.reader.Item.TheVariants.{Open, Close, Word as WordItem, Number as NumberItem}
 use Rattle.text.specs.declared.read.Page.{Page}
+use Rattle.text.specs.declared.read.ReadRefusal.TheVariants.{Short}
 use Rattle.text.specs.declared.row.Row.{Row}
 use Rattle.text.specs.declared.row.Row.TheVariants.{Word, Number, Items}
 use Rattle.text.specs.declared.filler.Filler.{Filler}
@@ -153,6 +155,11 @@ going_end x us rows f going e = by going.opens (subst (λ y. Along x going.opens
     by [] a = record { done = going.done; reads = a.reads; counts = a.counts; part = a.part }
     by (fs ∷ o) a = absurd (omega (arith, a.level))
 
+-- the answer where the sheet is too short
+pub short_answer : (x : Read) (rows : List Row) (f : Filler) (len : ℕ) → Ended x rows f → length rows ≡ len → length rows < f.used → Err Short ≡ laid_out x len
+short_answer x rows f len h e l =
+    sym (ap (λ y. laid_out y len) h.reads ∙ cond-false (leb (rows_in h.done) len) (Ok _) (Err Short) (lt-leb (rows_in h.done) len (omega (arith, h.counts))))
+
 -- where the sheet has the rows that are wanted, it then holds the forms
 abbrev page : Filler → Page
 page f = record { rows = f.used; lines = f.count }
@@ -162,3 +169,11 @@ good_sheet t rows f h l =
     let p = h.part l in
     let stands = sheet_holds rows f.used h.done l p.whole p.is (read_back t h.done h.reads).0 in
     h.reads ∙ ap forms (sym stands) ∙ ap (λ m. forms (forms_at rows 0 m)) (sym p.many)
+
+-- the answer then, and what the sheet holds
+pub good_answer : (t : List ℕ) (rows : List Row) (f : Filler) (len : ℕ) → Ended (read_text t) rows f → length rows ≡ len → f.used ≤ length rows → (Ok (page f) ≡ laid_out (read_text t) len) × Holds (read_text t) (Ok (page f)) rows
+good_answer t rows f len h e l =
+    let p = h.part l in (
+      (λ i. Ok (record { rows = h.counts i; lines = p.many i })) ∙ sym (ap (λ y. laid_out y len) h.reads ∙ cond-true (leb (rows_in h.done) len) (Ok _) (Err Short) (le-leb (rows_in h.done) len (omega (arith, h.counts)))),
+      good_sheet t rows f h l,
+    )

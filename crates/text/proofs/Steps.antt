@@ -1,14 +1,16 @@
 -- One move of the reader, and the tokens from there on.
-use Rattle.std.proofs.Common.{◌≡◌, ℕ, ◌+◌, ◌<◌, true, false, ◌⊎◌, cond, ltb, List, [], ◌∷◌, ◌++◌, length, drop, Some, None, Option, Ok, Err, Result, sym, refl, ap, ◌∙◌, inl, inr, ⊎_elim, arith}
-use Rattle.std.proofs.lemmas.List.{drop_more}
+use Rattle.std.proofs.Common.{◌≡◌, ℕ, ◌+◌, ◌<◌, ◌≤◌, true, false, ◌⊎◌, cond, ltb, List, [], ◌∷◌, ◌++◌, length, drop, Some, None, Option, Ok, Err, Result, sym, refl, ap, ◌∙◌, inl, inr, ⊎_elim, arith}
+use Rattle.std.proofs.lemmas.List.{drop_more, drop_all}
 use Rattle.text.specs.Bytes.{class_of, complete}
-use Rattle.text.specs.Tokens.{after, spot, halt, name, numeral, Tok, Toks, tok, toks, Out, goes, lex, at_after, at_word}
+use Rattle.text.specs.Tokens.{after, spot, halt, name, numeral, Tok, Toks, tok, end, bad, last, toks, Out, goes, lex, at_after, at_word}
 use Rattle.text.specs.Machine.{spot_of, mode_by, part_of, byte, ahead, out_of, told, Moved, item_grows, item_ends}
 use Rattle.text.specs.declared.reader.Reader.{Reader}
 use Rattle.text.specs.declared.reader.Item.{Item}
 use Rattle.text.specs.declared.reader.NoForm.{NoForm}
+use Rattle.text.specs.declared.reader.Gap.{Gap}
+use Rattle.text.specs.declared.reader.Gap.TheVariants.{Line, Want, After, Ended}
 use Rattle.text.specs.declared.reader.State.{State}
-use Rattle.text.specs.declared.reader.State.TheVariants.{Word, Number}
+use Rattle.text.specs.declared.reader.State.TheVariants.{Between, Word, Number}
 use Rattle.text.specs.declared.class.Class.{Class}
 use Rattle.text.specs.declared.class.Class.TheVariants.{Digit, Letter}
 use Rattle.text.proofs.Ways.{out, word_ways, number_ways}
@@ -47,6 +49,13 @@ module _ (s : Reader) (x : State) (c : Class) (h : s.at < length s.text.now) (is
       ap (λ y. out (at_after s.depth s.line y) left_over) class
       ∙ ap (toks (spot after s.depth s.line)) (sym (drop_more s.text.now s.at 0 h))
 
+  -- the byte is taken
+  pub taken : (t : Reader) (r : Result (Option Item) NoForm) (k : Class) → c ≡ k → Moved s t r (λ u. lex (mode_by x u.gap (part_of u)) u.depth u.line (byte u) k) 1 → ahead s ≡ told r (ahead t)
+  taken t r k e m =
+      byte_gives
+      ∙ ap (λ y. out (lex (mode_by x s.gap (part_of s)) s.depth s.line (byte s) y) left_over) e
+      ∙ moves s t r (λ u. lex (mode_by x u.gap (part_of u)) u.depth u.line (byte u) k) 1 m
+
 -- a word grows by a letter or a digit
 pub word_grown : (s : Reader) (c : Class) → s.at < length s.text.now → s.state ≡ Word → c ≡ class_of (byte s) → (c ≡ Letter) ⊎ (c ≡ Digit)
     → (t : Reader) (r : Result (Option Item) NoForm) → Moved s t r (item_grows (ltb (length (part_of s)) 12)) 1 → ahead s ≡ told r (ahead t)
@@ -81,3 +90,30 @@ number_held s c h is class whole t r m =
 
     no_true : complete (part_of s) ≡ false → ⊥
     no_true p = cc
+
+-- a number that is not complete is none before a byte that is no digit
+pub number_none : (s : Reader) (c : Class) → s.at < length s.text.now → s.state ≡ Number → c ≡ class_of (byte s) → complete (part_of s) ≡ false → (c ≡ Digit) ⊎ (ahead s ≡ bad s.line)
+number_none s c h is class part =
+    ⊎_elim inl (λ e. inr (byte_gives s Number c h is class ∙ e))
+    (number_ways (λ o. (c ≡ Digit) ⊎ (out o rest ≡ bad s.line)) s.depth s.line (part_of s) (byte s) c inl (λ p. absurd (no_false p)) (λ _. inr refl))
+  where
+    rest : List ℕ
+    rest = drop (s.at + 1) s.text.now
+
+    no_false : complete (part_of s) ≡ true → ⊥
+    no_false p = cc
+
+-- at the text's end
+pub at_end : (s : Reader) → length s.text.now ≤ s.at → ((s.state ≡ Between) × (s.gap ≡ Line) × (ahead s ≡ end)) ⊎ ((s.state ≡ Between → s.gap ≡ Line → ⊥) × (ahead s ≡ bad s.line))
+at_end s h = by s.state s.gap refl refl
+  where
+    at : {x : State} {g : Gap} → s.state ≡ x → s.gap ≡ g → ahead s ≡ last (mode_by x g (part_of s)) s.line
+    at e f = ap (toks (spot_of s)) (drop_all s.at s.text.now h) ∙ (λ i. last (mode_by (e i) (f i) (part_of s)) s.line)
+
+    by : (x : State) (g : Gap) → s.state ≡ x → s.gap ≡ g → ((s.state ≡ Between) × (s.gap ≡ Line) × (ahead s ≡ end)) ⊎ ((s.state ≡ Between → s.gap ≡ Line → ⊥) × (ahead s ≡ bad s.line))
+    by Between Line e f = inl (e, f, at e f)
+    by Between Want e f = inr (λ p q. let z : ◌≡◌ {A = ℕ} 0 1 = cc in omega arith, at e f)
+    by Between After e f = inr (λ p q. let z : ◌≡◌ {A = ℕ} 0 1 = cc in omega arith, at e f)
+    by Between Ended e f = inr (λ p q. let z : ◌≡◌ {A = ℕ} 0 1 = cc in omega arith, at e f)
+    by Word g e f = inr (λ p q. let z : ◌≡◌ {A = ℕ} 0 1 = cc in omega arith, at e f)
+    by Number g e f = inr (λ p q. let z : ◌≡◌ {A = ℕ} 0 1 = cc in omega arith, at e f)

@@ -38,7 +38,7 @@ thing_one None None (Some i) o m hc hi ho t e = let q : t ≡ InThing i = cc in 
 thing_one None None None (Some o) m hc hi ho t e = let q : t ≡ OutThing o = cc in let k = ho o refl in rw q (omega arith)
 thing_one None None None None m hc hi ho t e = let z : ◌≡◌ {A = ℕ} 0 1 = cc in omega arith
 
-thing_below : (rows : List Row) (p m : ℕ) (w : Word) (t : Thing) → thing (all_names (lines_at rows p m)) w ≡ Some t → source_operand (thing_source t) ≤ m
+pub thing_below : (rows : List Row) (p m : ℕ) (w : Word) (t : Thing) → thing (all_names (lines_at rows p m)) w ≡ Some t → source_operand (thing_source t) ≤ m
 thing_below rows p m w t e =
     let n = all_names (lines_at rows p m) in
     thing_one (find n.constants w) (found w n.cells) (found w n.inputs) (found w n.outputs) m
@@ -50,7 +50,7 @@ target_one (Some c) o m hc ho t e = let q : t ≡ CellTarget c = cc in let k = h
 target_one None (Some o) m hc ho t e = let q : t ≡ OutTarget o = cc in let k = ho o refl in rw q (omega arith)
 target_one None None m hc ho t e = let z : ◌≡◌ {A = ℕ} 0 1 = cc in omega arith
 
-target_below : (rows : List Row) (p m : ℕ) (w : Word) (t : Target) → target (all_names (lines_at rows p m)) w ≡ Some t → operand (target_instr t) ≤ m
+pub target_below : (rows : List Row) (p m : ℕ) (w : Word) (t : Target) → target (all_names (lines_at rows p m)) w ≡ Some t → operand (target_instr t) ≤ m
 target_below rows p m w t e =
     let n = all_names (lines_at rows p m) in
     target_one (found w n.cells) (found w n.outputs) m (named_below rows p m Cell w) (named_below rows p m Out w) t e
