@@ -1,7 +1,10 @@
--- The place found is the first.
-use Rattle.std.proofs.Common.{◌∙◌}
+-- The place found is the first, of the input or of a slice that is all of it.
+use Rattle.std.proofs.Math.Seq.{take-length}
 use Rattle.benchrun.proofs.Splits.{first_place}
 use Rattle.benchrun.proofs.split.tape_start.Goals as goal
 
 pub returns : goal.returns
-returns c = c.unwrap_or.ensures ∙ first_place c.args.input.now c.find.result c.find.ensures
+returns c =
+    let found = first_place _ c.find.result c.find.ensures in
+    let whole = take-length c.args.input.now in
+    cc
