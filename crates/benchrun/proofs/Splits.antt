@@ -86,6 +86,10 @@ module _ (input : List ℕ) where
       let so_far = passed (length input) (omega arith) (λ j h. untrue _ (λ e. none j (omega arith) (omega arith) (stands_there j e))) in
       omega (arith, so_far, ap tape_at (drop_all (length input) input (omega arith)))
 
+-- The same, where it was looked for in a list that is the input.
+pub first_place_in : (whole input : List ℕ) (r : Option ℕ) → FindsNeedle whole row_bytes 0 r → whole ≡ input → unwrap_or r (length input) ≡ tape_at input
+first_place_in whole input r found same = rw (← same) (first_place whole r found)
+
 -- The place lies within the input.
 within_input : (input : List ℕ) → tape_at input ≤ length input
 within_input [] = omega arith
