@@ -12,7 +12,7 @@ use board::rows::Row;
 use flat::head::Head;
 use itoa::Buffer;
 use kinds::Kind;
-use numerals::{Bracketed, push_shown, write_item, write_value};
+use numerals::{Bracketed, push_shown_with_room, write_item, write_value};
 use std::alloc::{AllocError, Global};
 use std::fmt;
 use std::fmt::Display;
@@ -138,7 +138,7 @@ fn front<T>(items: &[T], n: usize) -> &[T]
 // Appends the line of scan `n`, which took so many steps. It takes what memory it needs where `out` does, and so none of
 // the heap.
 pub fn push_scan_line<K: Kind>(
-    _heap: Global,
+    heap: Global,
     out: &mut Vec<u8>,
     head: &Head,
     n: u64,
@@ -155,5 +155,5 @@ pub fn push_scan_line<K: Kind>(
         outputs: front(&board.levels, head.outputs),
         steps,
     };
-    push_shown(out, line)
+    push_shown_with_room(out, line)
 }

@@ -52,12 +52,26 @@ impl Display for Bracketed<'_> {
     }
 }
 
-// The room that is made for a print before its length is known; one that is longer makes its room larger as it is written.
-const ROOM: usize = 256;
-
 // Appends what a value prints; what stood there stays in front, whatever is answered. The digits that a number is printed by
 // are those of base ten.
 pub fn push_shown<D: Display + Drop>(out: &mut Vec<u8>, shown: D) -> Result<(), AllocError>
+    ensures digits { BaseTenDigits }
+    ensures kept { Kept out.old.items out.new.items }
+    ensures appended { IfSome (D.output shown) (λ new. Appended out.old.items new result out.new.items) }
+{
+    let print = shown.to_string(*out.allocator())?;
+    out.extend_from_slice(print.as_bytes())
+}
+
+// The room that is made for a print before its length is known; one that is longer makes its room larger as it is written.
+const ROOM: usize = 256;
+
+// The same, with room made beforehand, which takes less time for a print of many parts. It needs memory for the room even where the
+// print is shorter; `push_shown` takes what the print needs, and none for a print of nothing.
+pub fn push_shown_with_room<D: Display + Drop>(
+    out: &mut Vec<u8>,
+    shown: D,
+) -> Result<(), AllocError>
     ensures digits { BaseTenDigits }
     ensures kept { Kept out.old.items out.new.items }
     ensures appended { IfSome (D.output shown) (λ new. Appended out.old.items new result out.new.items) }

@@ -23,3 +23,23 @@ fn lists(rt: HostRuntime) -> Result<(), Fail> {
     assert!(rt; out.as_slice() == b"()(7)(-5 0 12)".as_slice());
     Ok(())
 }
+
+#[test]
+fn nothing(rt: HostRuntime) -> Result<(), Fail> {
+    let mut out = Vec::new(rt.alloc());
+    push_shown(&mut out, 7i32)?;
+    push_shown(&mut out, "")?;
+    assert!(rt; out.as_slice() == b"7".as_slice());
+    Ok(())
+}
+
+#[test]
+fn with_room(rt: HostRuntime) -> Result<(), Fail> {
+    let mut out = Vec::new(rt.alloc());
+    push_shown_with_room(&mut out, 7i32)?;
+    push_shown_with_room(&mut out, "")?;
+    push_shown_with_room(&mut out, Bracketed(&[-2147483648; 25]))?;
+    assert!(rt; out.len() == 302);
+    assert!(rt; out.starts_with(b"7(-2147483648 -2147483648 "));
+    Ok(())
+}

@@ -12,7 +12,7 @@ use kinds::Kind;
 use lines::{RefusalLine, push_scan_line};
 use machine::live::Live;
 use machine::mounted::Mounted;
-use numerals::push_shown;
+use numerals::push_shown_with_room;
 use refusals::ScanRefusal;
 use std::alloc::{AllocError, Global};
 
@@ -84,7 +84,7 @@ impl<'a, K: Kind> Player<'a, K> {
                 }
                 Err(refusal) => {
                     let number = refusal.number();
-                    push_shown(&mut out, RefusalLine { number, at })?;
+                    push_shown_with_room(&mut out, RefusalLine { number, at })?;
                     return Ok(out);
                 }
             }

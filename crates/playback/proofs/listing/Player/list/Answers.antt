@@ -6,7 +6,7 @@ use Rattle.playback.proofs.listing.Player.list.Goals as goal
 pub returns-in-Err : goal.returns-in-Err
 returns-in-Err g c =
     listed-refused vec_items c.args.rows.now c.loop-i.i c.index-rows-i.result c.loop-i.invariant.listed c.loop-i-test.true c.index-rows-i.is _ c.deref.ensures.value _ _ c.loop-i.invariant.same_code c.loop-i.invariant.same_room _ _ _
-    c.in-Err.refusal c.number-number.result _ c.in-Err.ensures.result c.number-number.ensures c.in_ok-push_shown-in-Err.ensures.appended
+    c.in-Err.refusal c.number-number.result _ c.in-Err.ensures.result c.number-number.ensures c.in_ok-push_shown_with_room-in-Err.ensures.appended
 
 pub loop-i-preserved : goal.loop-i-preserved
 loop-i-preserved g c = record {
